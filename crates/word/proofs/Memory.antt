@@ -1,0 +1,64 @@
+-- Laws of numbers in memory, over the width.
+use mathlib.Core.Path.{_≡_, refl, _∙_, ap, sym}
+use mathlib.Core.List.{List}
+use Prim.Native.Nat.{ℕ, zero, suc, _+_, _-_, _*_, _/_, _%_, _^_, _<_, _≤_}
+use native.Mathlib.Nat.{pow-suc}
+use native.Mathlib.Omega.{arith}
+use lib.ListN.{length, getD, set, length-set}
+use lib.Pow.{shr-shr}
+use lib.Seq.{getD-set-same, getD-set-other}
+use Rattle.word.specs.Bytes.{loadOf, storeOf}
+
+pub store-length : (n : ℕ) (m : List ℕ) (a v : ℕ) → length (storeOf n m a v) ≡ length m
+store-length zero m a v = refl
+store-length (suc n) m a v = store-length n (set m a (v % 256)) (a + 1) (v / 256) ∙ length-set m a (v % 256)
+
+-- a store leaves every byte below its first one
+pub store-below : (n : ℕ) (m : List ℕ) (a v i : ℕ) → i < a → getD (storeOf n m a v) i 0 ≡ getD m i 0
+store-below zero m a v i h = refl
+store-below (suc n) m a v i h =
+    store-below n (set m a (v % 256)) (a + 1) (v / 256) i (omega arith) ∙ getD-set-other m a i (v % 256) 0 (λ e. omega arith)
+
+-- and every byte past its last one
+pub store-above : (n : ℕ) (m : List ℕ) (a v i : ℕ) → a + n ≤ i → getD (storeOf n m a v) i 0 ≡ getD m i 0
+store-above zero m a v i h = refl
+store-above (suc n) m a v i h =
+    store-above n (set m a (v % 256)) (a + 1) (v / 256) i (omega arith) ∙ getD-set-other m a i (v % 256) 0 (λ e. omega arith)
+
+quotient-lt : (v p : ℕ) → v < p * 256 → v / 256 < p
+quotient-lt v p h = omega arith
+
+-- what was stored is loaded again
+pub load-store : (n : ℕ) (m : List ℕ) (a v : ℕ) → a + n ≤ length m → v < 256 ^ n → loadOf n (storeOf n m a v) a ≡ v
+load-store zero m a v h l = omega arith
+load-store (suc n) m a v h l =
+    let byte : List ℕ = set m a (v % 256) in
+    let first : getD (storeOf n byte (a + 1) (v / 256)) a 0 ≡ v % 256 =
+    store-below n byte (a + 1) (v / 256) a (omega arith) ∙ getD-set-same m a (v % 256) 0 (omega arith) in
+    let later : loadOf n (storeOf n byte (a + 1) (v / 256)) (a + 1) ≡ v / 256 =
+    load-store n byte (a + 1) (v / 256) (simp length-set (omega arith)) (quotient-lt v (256 ^ n) (omega (arith, pow-suc 256 n))) in
+    rw (first, later) (omega arith)
+
+-- a load looks at its own bytes alone
+pub load-same : (n : ℕ) (m₁ m₂ : List ℕ) (a : ℕ) → ((i : ℕ) → a ≤ i → i < a + n → getD m₁ i 0 ≡ getD m₂ i 0) → loadOf n m₁ a ≡ loadOf n m₂ a
+load-same zero m₁ m₂ a h = refl
+load-same (suc n) m₁ m₂ a h =
+    rw (h a (omega arith) (omega arith), load-same n m₁ m₂ (a + 1) (λ i l u. h i (omega arith) (omega arith)))
+
+-- ---- a word's four bytes
+
+pub load-four : (m : List ℕ) (a : ℕ)
+    → loadOf 4 m a ≡ getD m a 0 + 256 * getD m (a + 1) 0 + 65536 * getD m (a + 2) 0 + 16777216 * getD m (a + 3) 0
+load-four m a =
+    let e₂ : a + 1 + 1 ≡ a + 2 = omega arith in
+    let e₃ : a + 2 + 1 ≡ a + 3 = omega arith in
+    rw (e₂, e₃) (omega arith)
+
+pub store-four : (m : List ℕ) (a v : ℕ)
+    → storeOf 4 m a v ≡ set (set (set (set m a (v % 256)) (a + 1) (v / 256 % 256)) (a + 2) (v / 65536 % 256)) (a + 3) (v / 16777216 % 256)
+store-four m a v =
+    let e₂ : a + 1 + 1 ≡ a + 2 = omega arith in
+    let e₃ : a + 2 + 1 ≡ a + 3 = omega arith in
+    let d₂ : v / 256 / 256 ≡ v / 65536 = shr-shr v 8 8 in
+    let d₃ : v / 65536 / 256 ≡ v / 16777216 = shr-shr v 16 8 in
+    rw (e₂, e₃, d₂, d₃)
