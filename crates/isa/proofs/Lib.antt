@@ -1,0 +1,9 @@
+pub mod Codes
+pub mod Roles
+pub mod Drawings
+pub mod ByKey
+pub mod Arms
+pub mod Formats
+pub mod RoundTrip
+pub mod Encoding
+pub mod Classes

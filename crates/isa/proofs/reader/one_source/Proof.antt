@@ -1,0 +1,12 @@
+use Rattle.isa.proofs.Formats.{one-source}
+use borrow.Author.Needs.{needs}
+use Rattle.isa.proofs.reader.one_source.Statement.{statement}
+use Rattle.isa.proofs.reader.one_source.Tie as tie
+
+returns : tie.Need-returns
+returns c =
+    let s = c .before .before .before .before .before in
+    one-source (s .args .k) (s .args .f) (s .pre .0) (s .pre .1) (s .pre .2) (c .before .instruction .ensures) (c .legal-if .ensures)
+
+pub one-source-spec : {M : Type 1} → statement M
+one-source-spec = tie.close (tie.spec (λ c κs. search needs) (λ c κs. search needs) returns)

@@ -1,0 +1,5 @@
+pub mod Table
+pub mod Drawing
+pub mod Reading
+pub mod Writing
+pub mod Class

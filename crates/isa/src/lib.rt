@@ -1,0 +1,6 @@
+// The instruction set: words read into instructions and written back, and what kind of instruction each is.
+pub mod class;
+pub mod format;
+pub mod kind;
+pub mod reader;
+pub mod writer;
