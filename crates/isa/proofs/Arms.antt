@@ -43,11 +43,11 @@ abbrev pub Avoids : ℕ → List ℕ → Type 0
 Avoids x [] = Unit
 Avoids x (n ∷ l) = Avoids x l × (x ≡ n → ⊥)
 
-abbrev member : ℕ → List ℕ → Bool
+abbrev pub member : ℕ → List ℕ → Bool
 member x [] = false
 member x (n ∷ l) = eqb x n || member x l
 
-not-member : (x : ℕ) (l : List ℕ) → Avoids x l → (y : ℕ) → T (member y l) → x ≡ y → ⊥
+pub not-member : (x : ℕ) (l : List ℕ) → Avoids x l → (y : ℕ) → T (member y l) → x ≡ y → ⊥
 not-member x [] a y t e = absurd t
 not-member x (n ∷ l) a y t e = at-head (eqb y n) (eqb→eq y n) t (λ s. not-member x l (a .0) y s e)
   where

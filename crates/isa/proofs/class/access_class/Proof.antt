@@ -2,36 +2,6 @@ use borrow.Author.Needs.{needs}
 use Rattle.isa.proofs.class.access_class.Statement.{statement}
 use Rattle.isa.proofs.class.access_class.Tie as tie
 
-returns : tie.Need-returns
-returns c = rw (c .before .enum-told .given .1) (c .loads .ensures)
-
-returns-2 : tie.Need-returns-2
-returns-2 c = rw (c .before .enum-told2 .given .1) (c .loads2 .ensures)
-
-returns-3 : tie.Need-returns-3
-returns-3 c = rw (c .before .enum-told3 .given .1) (c .stores .ensures)
-
-returns-4 : tie.Need-returns-4
-returns-4 c = rw (c .before .enum-told4 .given .1) (c .loads3 .ensures)
-
-returns-5 : tie.Need-returns-5
-returns-5 c = rw (c .before .enum-told5 .given .1) (c .loads4 .ensures)
-
-returns-6 : tie.Need-returns-6
-returns-6 c = rw (c .before .enum-told6 .given .1) (c .stores2 .ensures)
-
-returns-7 : tie.Need-returns-7
-returns-7 c = rw (c .before .enum-told7 .given .1) (c .loads5 .ensures)
-
-returns-8 : tie.Need-returns-8
-returns-8 c = rw (c .before .enum-told8 .given .1) (c .stores3 .ensures)
-
-returns-9 : tie.Need-returns-9
-returns-9 c = rw (c .before .enum-told9 .given .1) (c .loads6 .ensures)
-
-returns-10 : tie.Need-returns-10
-returns-10 c = rw (c .before .enum-told10 .given .1) (c .stores4 .ensures)
-
 pub access-class-spec : {M : Type 1} → statement M
 access-class-spec =
     tie.close
@@ -56,13 +26,13 @@ access-class-spec =
     (λ c κs. search needs)
     (λ c. search needs)
     (λ c κs. search needs)
-    returns
-    returns-2
-    returns-3
-    returns-4
-    returns-5
-    returns-6
-    returns-7
-    returns-8
-    returns-9
-    returns-10)
+    (λ c. rw (c .before .enum-told .given .1) (c .loads .ensures))
+    (λ c. rw (c .before .enum-told2 .given .1) (c .loads2 .ensures))
+    (λ c. rw (c .before .enum-told3 .given .1) (c .stores .ensures))
+    (λ c. rw (c .before .enum-told4 .given .1) (c .loads3 .ensures))
+    (λ c. rw (c .before .enum-told5 .given .1) (c .loads4 .ensures))
+    (λ c. rw (c .before .enum-told6 .given .1) (c .stores2 .ensures))
+    (λ c. rw (c .before .enum-told7 .given .1) (c .loads5 .ensures))
+    (λ c. rw (c .before .enum-told8 .given .1) (c .stores3 .ensures))
+    (λ c. rw (c .before .enum-told9 .given .1) (c .loads6 .ensures))
+    (λ c. rw (c .before .enum-told10 .given .1) (c .stores4 .ensures)))

@@ -2,54 +2,6 @@ use borrow.Author.Needs.{needs}
 use Rattle.isa.proofs.format.drawing_of.Statement.{statement}
 use Rattle.isa.proofs.format.drawing_of.Tie as tie
 
-returns : tie.Need-returns
-returns c = rw (c .before .enum-told .given .1) (c .drawn .ensures)
-
-returns-2 : tie.Need-returns-2
-returns-2 c = rw (c .before .enum-told2 .given .1) (c .drawn2 .ensures)
-
-returns-3 : tie.Need-returns-3
-returns-3 c = rw (c .before .enum-told3 .given .1) (c .drawn3 .ensures)
-
-returns-4 : tie.Need-returns-4
-returns-4 c = rw (c .before .enum-told4 .given .1) (c .drawn4 .ensures)
-
-returns-5 : tie.Need-returns-5
-returns-5 c = rw (c .before .enum-told5 .given .1) (c .drawn5 .ensures)
-
-returns-6 : tie.Need-returns-6
-returns-6 c = rw (c .before .enum-told6 .given .1) (c .drawn6 .ensures)
-
-returns-7 : tie.Need-returns-7
-returns-7 c = rw (c .before .enum-told7 .given .1) (c .drawn7 .ensures)
-
-returns-8 : tie.Need-returns-8
-returns-8 c = rw (c .before .enum-told8 .given .1) (c .drawn8 .ensures)
-
-returns-9 : tie.Need-returns-9
-returns-9 c = rw (c .before .enum-told9 .given .1) (c .drawn9 .ensures)
-
-returns-10 : tie.Need-returns-10
-returns-10 c = rw (c .before .enum-told10 .given .1) (c .drawn10 .ensures)
-
-returns-11 : tie.Need-returns-11
-returns-11 c = rw (c .before .enum-told11 .given .1) (c .drawn11 .ensures)
-
-returns-12 : tie.Need-returns-12
-returns-12 c = rw (c .before .enum-told12 .given .1) (c .drawn12 .ensures)
-
-returns-13 : tie.Need-returns-13
-returns-13 c = rw (c .before .enum-told13 .given .1) (c .drawn13 .ensures)
-
-returns-14 : tie.Need-returns-14
-returns-14 c = rw (c .before .enum-told14 .given .1) (c .drawn14 .ensures)
-
-returns-15 : tie.Need-returns-15
-returns-15 c = rw (c .before .enum-told15 .given .1) (c .drawn15 .ensures)
-
-returns-16 : tie.Need-returns-16
-returns-16 c = rw (c .before .enum-told16 .given .1) (c .drawn16 .ensures)
-
 pub drawing-of-spec : {M : Type 1} → statement M
 drawing-of-spec =
     tie.close
@@ -86,19 +38,19 @@ drawing-of-spec =
     (λ c κs. search needs)
     (λ c. search needs)
     (λ c κs. search needs)
-    returns
-    returns-2
-    returns-3
-    returns-4
-    returns-5
-    returns-6
-    returns-7
-    returns-8
-    returns-9
-    returns-10
-    returns-11
-    returns-12
-    returns-13
-    returns-14
-    returns-15
-    returns-16)
+    (λ c. rw (c .before .enum-told .given .1) (c .drawn .ensures))
+    (λ c. rw (c .before .enum-told2 .given .1) (c .drawn2 .ensures))
+    (λ c. rw (c .before .enum-told3 .given .1) (c .drawn3 .ensures))
+    (λ c. rw (c .before .enum-told4 .given .1) (c .drawn4 .ensures))
+    (λ c. rw (c .before .enum-told5 .given .1) (c .drawn5 .ensures))
+    (λ c. rw (c .before .enum-told6 .given .1) (c .drawn6 .ensures))
+    (λ c. rw (c .before .enum-told7 .given .1) (c .drawn7 .ensures))
+    (λ c. rw (c .before .enum-told8 .given .1) (c .drawn8 .ensures))
+    (λ c. rw (c .before .enum-told9 .given .1) (c .drawn9 .ensures))
+    (λ c. rw (c .before .enum-told10 .given .1) (c .drawn10 .ensures))
+    (λ c. rw (c .before .enum-told11 .given .1) (c .drawn11 .ensures))
+    (λ c. rw (c .before .enum-told12 .given .1) (c .drawn12 .ensures))
+    (λ c. rw (c .before .enum-told13 .given .1) (c .drawn13 .ensures))
+    (λ c. rw (c .before .enum-told14 .given .1) (c .drawn14 .ensures))
+    (λ c. rw (c .before .enum-told15 .given .1) (c .drawn15 .ensures))
+    (λ c. rw (c .before .enum-told16 .given .1) (c .drawn16 .ensures)))

@@ -2,42 +2,6 @@ use borrow.Author.Needs.{needs}
 use Rattle.isa.proofs.format.trap_row.Statement.{statement}
 use Rattle.isa.proofs.format.trap_row.Tie as tie
 
-returns : tie.Need-returns
-returns c = rw (c .before .enum-told .given .1) (c .entry .ensures)
-
-returns-2 : tie.Need-returns-2
-returns-2 c = rw (c .before .enum-told2 .given .1) (c .entry2 .ensures)
-
-returns-3 : tie.Need-returns-3
-returns-3 c = rw (c .before .enum-told3 .given .1) (c .entry3 .ensures)
-
-returns-4 : tie.Need-returns-4
-returns-4 c = rw (c .before .enum-told4 .given .1) (c .entry4 .ensures)
-
-returns-5 : tie.Need-returns-5
-returns-5 c = rw (c .before .enum-told5 .given .1) (c .entry5 .ensures)
-
-returns-6 : tie.Need-returns-6
-returns-6 c = rw (c .before .enum-told6 .given .1) (c .entry6 .ensures)
-
-returns-7 : tie.Need-returns-7
-returns-7 c = rw (c .before .enum-told7 .given .1) (c .entry7 .ensures)
-
-returns-8 : tie.Need-returns-8
-returns-8 c = rw (c .before .enum-told8 .given .1) (c .entry8 .ensures)
-
-returns-9 : tie.Need-returns-9
-returns-9 c = rw (c .before .enum-told9 .given .1) (c .entry9 .ensures)
-
-returns-10 : tie.Need-returns-10
-returns-10 c = rw (c .before .enum-told10 .given .1) (c .entry10 .ensures)
-
-returns-11 : tie.Need-returns-11
-returns-11 c = rw (c .before .enum-told11 .given .1) (c .entry11 .ensures)
-
-returns-12 : tie.Need-returns-12
-returns-12 c = rw (c .before .enum-told12 .given .1) (c .entry12 .ensures)
-
 pub trap-row-spec : {M : Type 1} → statement M
 trap-row-spec =
     tie.close
@@ -66,15 +30,15 @@ trap-row-spec =
     (λ c κs. search needs)
     (λ c. search needs)
     (λ c κs. search needs)
-    returns
-    returns-2
-    returns-3
-    returns-4
-    returns-5
-    returns-6
-    returns-7
-    returns-8
-    returns-9
-    returns-10
-    returns-11
-    returns-12)
+    (λ c. rw (c .before .enum-told .given .1) (c .entry .ensures))
+    (λ c. rw (c .before .enum-told2 .given .1) (c .entry2 .ensures))
+    (λ c. rw (c .before .enum-told3 .given .1) (c .entry3 .ensures))
+    (λ c. rw (c .before .enum-told4 .given .1) (c .entry4 .ensures))
+    (λ c. rw (c .before .enum-told5 .given .1) (c .entry5 .ensures))
+    (λ c. rw (c .before .enum-told6 .given .1) (c .entry6 .ensures))
+    (λ c. rw (c .before .enum-told7 .given .1) (c .entry7 .ensures))
+    (λ c. rw (c .before .enum-told8 .given .1) (c .entry8 .ensures))
+    (λ c. rw (c .before .enum-told9 .given .1) (c .entry9 .ensures))
+    (λ c. rw (c .before .enum-told10 .given .1) (c .entry10 .ensures))
+    (λ c. rw (c .before .enum-told11 .given .1) (c .entry11 .ensures))
+    (λ c. rw (c .before .enum-told12 .given .1) (c .entry12 .ensures)))
