@@ -1,6 +1,6 @@
 // Instructions by number: 1 to 72, in the order of document 004, section 1.2.
 ghost use mathlib.Core.Path.{_≡_};
-ghost use Rattle.isa.specs.Table.{rowOf};
+ghost use Rattle.isa.specs.Table.{aluRow, immediateRow, shiftRow, multiplyRow, accessRow, branchRow, trapRow, systemRow};
 ghost use Rattle.cc100.specs.Number.{numberOf, kindOf};
 use isa::kind::Access;
 use isa::kind::Alu;
@@ -18,11 +18,147 @@ pub enum Numbered {
     Unknown,
 }
 
+fn alu_number(k: Alu) -> u32
+    ensures { λ r. ⌜ r ≡ aluRow k .number ⌝ }
+{
+    match k {
+        Alu::Add => 1,
+        Alu::Addu => 4,
+        Alu::Sub => 54,
+        Alu::Subu => 55,
+        Alu::Slt => 46,
+        Alu::Sltu => 49,
+        Alu::And => 5,
+        Alu::Or => 38,
+        Alu::Xor => 71,
+        Alu::Nor => 37,
+    }
+}
+
+fn immediate_number(k: Immediate) -> u32
+    ensures { λ r. ⌜ r ≡ immediateRow k .number ⌝ }
+{
+    match k {
+        Immediate::Addi => 2,
+        Immediate::Addiu => 3,
+        Immediate::Slti => 47,
+        Immediate::Sltiu => 48,
+        Immediate::Andi => 6,
+        Immediate::Ori => 39,
+        Immediate::Xori => 72,
+        Immediate::Lui => 27,
+    }
+}
+
+fn shift_number(k: Shift) -> u32
+    ensures { λ r. ⌜ r ≡ shiftRow k .number ⌝ }
+{
+    match k {
+        Shift::Sll => 44,
+        Shift::Srl => 52,
+        Shift::Sra => 50,
+        Shift::Sllv => 45,
+        Shift::Srlv => 53,
+        Shift::Srav => 51,
+    }
+}
+
+fn multiply_number(k: Multiply) -> u32
+    ensures { λ r. ⌜ r ≡ multiplyRow k .number ⌝ }
+{
+    match k {
+        Multiply::Mult => 35,
+        Multiply::Multu => 36,
+        Multiply::Div => 16,
+        Multiply::Divu => 17,
+        Multiply::Mfhi => 30,
+        Multiply::Mthi => 33,
+        Multiply::Mflo => 31,
+        Multiply::Mtlo => 34,
+    }
+}
+
+fn access_number(k: Access) -> u32
+    ensures { λ r. ⌜ r ≡ accessRow k .number ⌝ }
+{
+    match k {
+        Access::Lb => 22,
+        Access::Lbu => 23,
+        Access::Sb => 41,
+        Access::Lh => 24,
+        Access::Lhu => 25,
+        Access::Sh => 43,
+        Access::Lw => 28,
+        Access::Sw => 56,
+        Access::Ll => 26,
+        Access::Sc => 42,
+    }
+}
+
+fn branch_number(k: Branch) -> u32
+    ensures { λ r. ⌜ r ≡ branchRow k .number ⌝ }
+{
+    match k {
+        Branch::J => 18,
+        Branch::Jal => 19,
+        Branch::Jr => 21,
+        Branch::Jalr => 20,
+        Branch::Beq => 7,
+        Branch::Bne => 14,
+        Branch::Blez => 11,
+        Branch::Bgtz => 10,
+        Branch::Bltz => 12,
+        Branch::Bgez => 8,
+        Branch::Bltzal => 13,
+        Branch::Bgezal => 9,
+    }
+}
+
+fn trap_number(k: Trap) -> u32
+    ensures { λ r. ⌜ r ≡ trapRow k .number ⌝ }
+{
+    match k {
+        Trap::Tge => 61,
+        Trap::Tgeu => 64,
+        Trap::Tlt => 65,
+        Trap::Tltu => 68,
+        Trap::Teq => 59,
+        Trap::Tne => 69,
+        Trap::Tgei => 62,
+        Trap::Tgeiu => 63,
+        Trap::Tlti => 66,
+        Trap::Tltiu => 67,
+        Trap::Teqi => 60,
+        Trap::Tnei => 70,
+    }
+}
+
+fn system_number(k: System) -> u32
+    ensures { λ r. ⌜ r ≡ systemRow k .number ⌝ }
+{
+    match k {
+        System::Syscall => 58,
+        System::Break => 15,
+        System::Rfe => 40,
+        System::Mfc0 => 29,
+        System::Mtc0 => 32,
+        System::Sync => 57,
+    }
+}
+
 pub fn number_of(k: Kind) -> u32
     ensures { λ r. ⌜ r ≡ numberOf k ⌝ }
 {
-    let row = isa::format::row_of(k);
-    row.number
+    match k {
+        Kind::Alu(x) => alu_number(x),
+        Kind::Immediate(x) => immediate_number(x),
+        Kind::Shift(x) => shift_number(x),
+        Kind::Multiply(x) => multiply_number(x),
+        Kind::Access(x) => access_number(x),
+        Kind::Branch(x) => branch_number(x),
+        Kind::Trap(x) => trap_number(x),
+        Kind::System(x) => system_number(x),
+    }
 }
 
 pub fn kind_of(n: u32) -> Numbered

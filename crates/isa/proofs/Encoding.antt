@@ -7,11 +7,11 @@ use Rattle.word.specs.declared.field.Fields.{Fields}
 use Rattle.word.specs.Field.{joinOf, Fit}
 use Rattle.isa.specs.declared.kind.Instruction.{Instruction}
 use Rattle.isa.specs.declared.format.Format.{Format}
-use Rattle.isa.specs.declared.format.Row.{Row}
+use Rattle.isa.specs.declared.format.Shape.{Shape}
 use Rattle.isa.specs.declared.format.Drawing.{Drawing}
 use Rattle.isa.specs.declared.writer.Written.{Written}
 use Rattle.isa.specs.declared.writer.Written.the-variants.{Word, Refused}
-use Rattle.isa.specs.Table.{rowOf}
+use Rattle.isa.specs.Table.{rowOf, shapeIn}
 use Rattle.isa.specs.Drawing.{drawingOf}
 use Rattle.isa.specs.Reading.{drawingFor}
 use Rattle.isa.specs.Writing.{operandFits, fieldOf, rest, restFunct, restShift, restRd, restRt, restRs, encodeOf, legal, writeOf}
@@ -33,12 +33,12 @@ pub fitting : (d : Drawing) (i : Instruction) {a b c e : Bool} {v : ℕ} → a �
 unfolding legal
 fitting d i p q r s t = rw (p, q, r, s, t)
 
-abbrev pub code : Row → ℕ
+abbrev pub code : Shape → ℕ
 code r = r .code
 
--- the drawing found for a kind's row
-pub drawing-found : (i : Instruction) {r : Row} {d : Drawing} → r ≡ rowOf (i .kind) → d ≡ drawingOf (r .format) → d ≡ drawingFor (i .kind)
-drawing-found i p q = q ∙ ap (λ (x : Row). drawingOf (x .format)) p
+-- the drawing found for a kind's shape
+pub drawing-found : (i : Instruction) {r : Shape} {d : Drawing} → r ≡ shapeIn (rowOf (i .kind)) → d ≡ drawingOf (r .format) → d ≡ drawingFor (i .kind)
+drawing-found i p q = q ∙ ap (λ (x : Shape). drawingOf (x .format)) p
 
 module _ (i : Instruction) {d : Drawing} {n : ℕ} {f : Fields} {b : Bool}
     (pd : d ≡ drawingFor (i .kind)) (pn : n ≡ rowOf (i .kind) .code) (pf : f ≡ encodeOf d n i) (pb : b ≡ legal d i) where

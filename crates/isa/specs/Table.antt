@@ -23,7 +23,12 @@ use Rattle.isa.specs.declared.kind.Kind.{Kind}
 use Rattle.isa.specs.declared.kind.Kind.the-variants as K
 use Rattle.isa.specs.declared.format.Format.{Format}
 use Rattle.isa.specs.declared.format.Format.the-variants.{ThreeRegisters, ShiftAmount, TwoSources, OneSource, OneTarget, SourceTarget, SystemCode, Barrier, TrapCode, Condition, JumpIndex, Constant, BranchZero, UpperConstant, ControlMove, ExceptionReturn}
-use Rattle.isa.specs.declared.format.Row.{Row}
+use Rattle.isa.specs.declared.format.Shape.{Shape}
+
+pub record Row : Type 0 where
+  pub number : ℕ
+  pub format : Format
+  pub code : ℕ
 
 abbrev pub row : ℕ → Format → ℕ → Row
 row n f c = record { number = n; format = f; code = c }
@@ -133,6 +138,13 @@ rowOf (K.Access k) = accessRow k
 rowOf (K.Branch k) = branchRow k
 rowOf (K.Trap k) = trapRow k
 rowOf (K.System k) = systemRow k
+
+abbrev pub shaped : Format → ℕ → Shape
+shaped f c = record { format = f; code = c }
+
+-- what a reader or writer of words needs of a line
+abbrev pub shapeIn : Row → Shape
+shapeIn r = shaped (r .format) (r .code)
 
 -- all of them, in the order of section 1.2: the one with number n stands in place n, counted from 1
 abbrev pub instructions : List Kind

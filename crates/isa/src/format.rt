@@ -31,9 +31,8 @@ pub enum Format {
     ExceptionReturn,
 }
 
-// An instruction's line in the table: its number, its format and the code that tells it from the others of the format.
-pub struct Row {
-    pub number: u32,
+// An instruction's format, and the code that tells it from the others of the format.
+pub struct Shape {
     pub format: Format,
     pub code: u32,
 }
@@ -62,156 +61,152 @@ pub struct Drawing {
     pub funct: Role,
 }
 
-fn entry(number: u32, format: Format, code: u32) -> Row
-    ensures { λ r. ⌜ r ≡ T.row number format code ⌝ }
+fn shaped(format: Format, code: u32) -> Shape
+    ensures { λ r. ⌜ r ≡ T.shaped format code ⌝ }
 {
-    Row {
-        number,
-        format,
-        code,
+    Shape { format, code }
+}
+
+fn alu_shape(k: Alu) -> Shape
+    ensures { λ r. ⌜ r ≡ T.shapeIn (T.aluRow k) ⌝ }
+{
+    match k {
+        Alu::Add => shaped(Format::ThreeRegisters, 32),
+        Alu::Addu => shaped(Format::ThreeRegisters, 33),
+        Alu::Sub => shaped(Format::ThreeRegisters, 34),
+        Alu::Subu => shaped(Format::ThreeRegisters, 35),
+        Alu::Slt => shaped(Format::ThreeRegisters, 42),
+        Alu::Sltu => shaped(Format::ThreeRegisters, 43),
+        Alu::And => shaped(Format::ThreeRegisters, 36),
+        Alu::Or => shaped(Format::ThreeRegisters, 37),
+        Alu::Xor => shaped(Format::ThreeRegisters, 38),
+        Alu::Nor => shaped(Format::ThreeRegisters, 39),
     }
 }
 
-fn alu_row(k: Alu) -> Row
-    ensures { λ r. ⌜ r ≡ T.aluRow k ⌝ }
+fn immediate_shape(k: Immediate) -> Shape
+    ensures { λ r. ⌜ r ≡ T.shapeIn (T.immediateRow k) ⌝ }
 {
     match k {
-        Alu::Add => entry(1, Format::ThreeRegisters, 32),
-        Alu::Addu => entry(4, Format::ThreeRegisters, 33),
-        Alu::Sub => entry(54, Format::ThreeRegisters, 34),
-        Alu::Subu => entry(55, Format::ThreeRegisters, 35),
-        Alu::Slt => entry(46, Format::ThreeRegisters, 42),
-        Alu::Sltu => entry(49, Format::ThreeRegisters, 43),
-        Alu::And => entry(5, Format::ThreeRegisters, 36),
-        Alu::Or => entry(38, Format::ThreeRegisters, 37),
-        Alu::Xor => entry(71, Format::ThreeRegisters, 38),
-        Alu::Nor => entry(37, Format::ThreeRegisters, 39),
+        Immediate::Addi => shaped(Format::Constant, 8),
+        Immediate::Addiu => shaped(Format::Constant, 9),
+        Immediate::Slti => shaped(Format::Constant, 10),
+        Immediate::Sltiu => shaped(Format::Constant, 11),
+        Immediate::Andi => shaped(Format::Constant, 12),
+        Immediate::Ori => shaped(Format::Constant, 13),
+        Immediate::Xori => shaped(Format::Constant, 14),
+        Immediate::Lui => shaped(Format::UpperConstant, 15),
     }
 }
 
-fn immediate_row(k: Immediate) -> Row
-    ensures { λ r. ⌜ r ≡ T.immediateRow k ⌝ }
+fn shift_shape(k: Shift) -> Shape
+    ensures { λ r. ⌜ r ≡ T.shapeIn (T.shiftRow k) ⌝ }
 {
     match k {
-        Immediate::Addi => entry(2, Format::Constant, 8),
-        Immediate::Addiu => entry(3, Format::Constant, 9),
-        Immediate::Slti => entry(47, Format::Constant, 10),
-        Immediate::Sltiu => entry(48, Format::Constant, 11),
-        Immediate::Andi => entry(6, Format::Constant, 12),
-        Immediate::Ori => entry(39, Format::Constant, 13),
-        Immediate::Xori => entry(72, Format::Constant, 14),
-        Immediate::Lui => entry(27, Format::UpperConstant, 15),
+        Shift::Sll => shaped(Format::ShiftAmount, 0),
+        Shift::Srl => shaped(Format::ShiftAmount, 2),
+        Shift::Sra => shaped(Format::ShiftAmount, 3),
+        Shift::Sllv => shaped(Format::ThreeRegisters, 4),
+        Shift::Srlv => shaped(Format::ThreeRegisters, 6),
+        Shift::Srav => shaped(Format::ThreeRegisters, 7),
     }
 }
 
-fn shift_row(k: Shift) -> Row
-    ensures { λ r. ⌜ r ≡ T.shiftRow k ⌝ }
+fn multiply_shape(k: Multiply) -> Shape
+    ensures { λ r. ⌜ r ≡ T.shapeIn (T.multiplyRow k) ⌝ }
 {
     match k {
-        Shift::Sll => entry(44, Format::ShiftAmount, 0),
-        Shift::Srl => entry(52, Format::ShiftAmount, 2),
-        Shift::Sra => entry(50, Format::ShiftAmount, 3),
-        Shift::Sllv => entry(45, Format::ThreeRegisters, 4),
-        Shift::Srlv => entry(53, Format::ThreeRegisters, 6),
-        Shift::Srav => entry(51, Format::ThreeRegisters, 7),
+        Multiply::Mult => shaped(Format::TwoSources, 24),
+        Multiply::Multu => shaped(Format::TwoSources, 25),
+        Multiply::Div => shaped(Format::TwoSources, 26),
+        Multiply::Divu => shaped(Format::TwoSources, 27),
+        Multiply::Mfhi => shaped(Format::OneTarget, 16),
+        Multiply::Mthi => shaped(Format::OneSource, 17),
+        Multiply::Mflo => shaped(Format::OneTarget, 18),
+        Multiply::Mtlo => shaped(Format::OneSource, 19),
     }
 }
 
-fn multiply_row(k: Multiply) -> Row
-    ensures { λ r. ⌜ r ≡ T.multiplyRow k ⌝ }
+fn access_shape(k: Access) -> Shape
+    ensures { λ r. ⌜ r ≡ T.shapeIn (T.accessRow k) ⌝ }
 {
     match k {
-        Multiply::Mult => entry(35, Format::TwoSources, 24),
-        Multiply::Multu => entry(36, Format::TwoSources, 25),
-        Multiply::Div => entry(16, Format::TwoSources, 26),
-        Multiply::Divu => entry(17, Format::TwoSources, 27),
-        Multiply::Mfhi => entry(30, Format::OneTarget, 16),
-        Multiply::Mthi => entry(33, Format::OneSource, 17),
-        Multiply::Mflo => entry(31, Format::OneTarget, 18),
-        Multiply::Mtlo => entry(34, Format::OneSource, 19),
+        Access::Lb => shaped(Format::Constant, 32),
+        Access::Lbu => shaped(Format::Constant, 36),
+        Access::Sb => shaped(Format::Constant, 40),
+        Access::Lh => shaped(Format::Constant, 33),
+        Access::Lhu => shaped(Format::Constant, 37),
+        Access::Sh => shaped(Format::Constant, 41),
+        Access::Lw => shaped(Format::Constant, 35),
+        Access::Sw => shaped(Format::Constant, 43),
+        Access::Ll => shaped(Format::Constant, 48),
+        Access::Sc => shaped(Format::Constant, 56),
     }
 }
 
-fn access_row(k: Access) -> Row
-    ensures { λ r. ⌜ r ≡ T.accessRow k ⌝ }
+fn branch_shape(k: Branch) -> Shape
+    ensures { λ r. ⌜ r ≡ T.shapeIn (T.branchRow k) ⌝ }
 {
     match k {
-        Access::Lb => entry(22, Format::Constant, 32),
-        Access::Lbu => entry(23, Format::Constant, 36),
-        Access::Sb => entry(41, Format::Constant, 40),
-        Access::Lh => entry(24, Format::Constant, 33),
-        Access::Lhu => entry(25, Format::Constant, 37),
-        Access::Sh => entry(43, Format::Constant, 41),
-        Access::Lw => entry(28, Format::Constant, 35),
-        Access::Sw => entry(56, Format::Constant, 43),
-        Access::Ll => entry(26, Format::Constant, 48),
-        Access::Sc => entry(42, Format::Constant, 56),
+        Branch::J => shaped(Format::JumpIndex, 2),
+        Branch::Jal => shaped(Format::JumpIndex, 3),
+        Branch::Jr => shaped(Format::OneSource, 8),
+        Branch::Jalr => shaped(Format::SourceTarget, 9),
+        Branch::Beq => shaped(Format::Constant, 4),
+        Branch::Bne => shaped(Format::Constant, 5),
+        Branch::Blez => shaped(Format::BranchZero, 6),
+        Branch::Bgtz => shaped(Format::BranchZero, 7),
+        Branch::Bltz => shaped(Format::Condition, 0),
+        Branch::Bgez => shaped(Format::Condition, 1),
+        Branch::Bltzal => shaped(Format::Condition, 16),
+        Branch::Bgezal => shaped(Format::Condition, 17),
     }
 }
 
-fn branch_row(k: Branch) -> Row
-    ensures { λ r. ⌜ r ≡ T.branchRow k ⌝ }
+fn trap_shape(k: Trap) -> Shape
+    ensures { λ r. ⌜ r ≡ T.shapeIn (T.trapRow k) ⌝ }
 {
     match k {
-        Branch::J => entry(18, Format::JumpIndex, 2),
-        Branch::Jal => entry(19, Format::JumpIndex, 3),
-        Branch::Jr => entry(21, Format::OneSource, 8),
-        Branch::Jalr => entry(20, Format::SourceTarget, 9),
-        Branch::Beq => entry(7, Format::Constant, 4),
-        Branch::Bne => entry(14, Format::Constant, 5),
-        Branch::Blez => entry(11, Format::BranchZero, 6),
-        Branch::Bgtz => entry(10, Format::BranchZero, 7),
-        Branch::Bltz => entry(12, Format::Condition, 0),
-        Branch::Bgez => entry(8, Format::Condition, 1),
-        Branch::Bltzal => entry(13, Format::Condition, 16),
-        Branch::Bgezal => entry(9, Format::Condition, 17),
+        Trap::Tge => shaped(Format::TrapCode, 48),
+        Trap::Tgeu => shaped(Format::TrapCode, 49),
+        Trap::Tlt => shaped(Format::TrapCode, 50),
+        Trap::Tltu => shaped(Format::TrapCode, 51),
+        Trap::Teq => shaped(Format::TrapCode, 52),
+        Trap::Tne => shaped(Format::TrapCode, 54),
+        Trap::Tgei => shaped(Format::Condition, 8),
+        Trap::Tgeiu => shaped(Format::Condition, 9),
+        Trap::Tlti => shaped(Format::Condition, 10),
+        Trap::Tltiu => shaped(Format::Condition, 11),
+        Trap::Teqi => shaped(Format::Condition, 12),
+        Trap::Tnei => shaped(Format::Condition, 14),
     }
 }
 
-fn trap_row(k: Trap) -> Row
-    ensures { λ r. ⌜ r ≡ T.trapRow k ⌝ }
+fn system_shape(k: System) -> Shape
+    ensures { λ r. ⌜ r ≡ T.shapeIn (T.systemRow k) ⌝ }
 {
     match k {
-        Trap::Tge => entry(61, Format::TrapCode, 48),
-        Trap::Tgeu => entry(64, Format::TrapCode, 49),
-        Trap::Tlt => entry(65, Format::TrapCode, 50),
-        Trap::Tltu => entry(68, Format::TrapCode, 51),
-        Trap::Teq => entry(59, Format::TrapCode, 52),
-        Trap::Tne => entry(69, Format::TrapCode, 54),
-        Trap::Tgei => entry(62, Format::Condition, 8),
-        Trap::Tgeiu => entry(63, Format::Condition, 9),
-        Trap::Tlti => entry(66, Format::Condition, 10),
-        Trap::Tltiu => entry(67, Format::Condition, 11),
-        Trap::Teqi => entry(60, Format::Condition, 12),
-        Trap::Tnei => entry(70, Format::Condition, 14),
+        System::Syscall => shaped(Format::SystemCode, 12),
+        System::Break => shaped(Format::SystemCode, 13),
+        System::Rfe => shaped(Format::ExceptionReturn, 16),
+        System::Mfc0 => shaped(Format::ControlMove, 0),
+        System::Mtc0 => shaped(Format::ControlMove, 4),
+        System::Sync => shaped(Format::Barrier, 15),
     }
 }
 
-fn system_row(k: System) -> Row
-    ensures { λ r. ⌜ r ≡ T.systemRow k ⌝ }
+pub fn shape_of(k: Kind) -> Shape
+    ensures { λ r. ⌜ r ≡ T.shapeIn (T.rowOf k) ⌝ }
 {
     match k {
-        System::Syscall => entry(58, Format::SystemCode, 12),
-        System::Break => entry(15, Format::SystemCode, 13),
-        System::Rfe => entry(40, Format::ExceptionReturn, 16),
-        System::Mfc0 => entry(29, Format::ControlMove, 0),
-        System::Mtc0 => entry(32, Format::ControlMove, 4),
-        System::Sync => entry(57, Format::Barrier, 15),
-    }
-}
-
-pub fn row_of(k: Kind) -> Row
-    ensures { λ r. ⌜ r ≡ T.rowOf k ⌝ }
-{
-    match k {
-        Kind::Alu(x) => alu_row(x),
-        Kind::Immediate(x) => immediate_row(x),
-        Kind::Shift(x) => shift_row(x),
-        Kind::Multiply(x) => multiply_row(x),
-        Kind::Access(x) => access_row(x),
-        Kind::Branch(x) => branch_row(x),
-        Kind::Trap(x) => trap_row(x),
-        Kind::System(x) => system_row(x),
+        Kind::Alu(x) => alu_shape(x),
+        Kind::Immediate(x) => immediate_shape(x),
+        Kind::Shift(x) => shift_shape(x),
+        Kind::Multiply(x) => multiply_shape(x),
+        Kind::Access(x) => access_shape(x),
+        Kind::Branch(x) => branch_shape(x),
+        Kind::Trap(x) => trap_shape(x),
+        Kind::System(x) => system_shape(x),
     }
 }
 

@@ -1,7 +1,7 @@
 // A word read: the tables of codes, and for each format the test of the bits that must be zero and the operands.
 ghost use mathlib.Core.Path.{_≡_};
 ghost use Prim.Native.Nat.{_+_, _*_, _^_};
-ghost use Rattle.word.specs.Field.{Fit};
+ghost use Rattle.word.specs.Field.{cutOf, Fit};
 ghost use Rattle.isa.specs.Table.{rowOf};
 ghost use Rattle.isa.specs.Reading.{isControl, made, legalIf, readAs, readFields, readOf};
 ghost use Rattle.isa.specs.declared.format.Format.the-variants as F;
@@ -92,133 +92,149 @@ fn legal_if(test: bool, i: Instruction) -> Reading
 
 // ---- one function for each format: the bits that must be zero, and the operands
 
-fn three_registers(k: Kind, f: Fields) -> Reading
-    requires { ⌜ (rowOf k .format ≡ F.ThreeRegisters) × (f .op ≡ 0) × (f .funct ≡ rowOf k .code) ⌝ }
-    ensures { λ r. ⌜ r ≡ readAs k f ⌝ }
+fn three_registers(k: Kind, w: u32) -> Reading
+    requires { ⌜ (rowOf k .format ≡ F.ThreeRegisters) × (cutOf w .op ≡ 0) × (cutOf w .funct ≡ rowOf k .code) ⌝ }
+    ensures { λ r. ⌜ r ≡ readAs k (cutOf w) ⌝ }
 {
+    let f = word::field::cut(w);
     legal_if(f.shift == 0, instruction(k, f.rs, f.rt, f.rd, 0, 0))
 }
 
-fn shift_amount(k: Kind, f: Fields) -> Reading
-    requires { ⌜ (rowOf k .format ≡ F.ShiftAmount) × (f .op ≡ 0) × (f .funct ≡ rowOf k .code) ⌝ }
-    ensures { λ r. ⌜ r ≡ readAs k f ⌝ }
+fn shift_amount(k: Kind, w: u32) -> Reading
+    requires { ⌜ (rowOf k .format ≡ F.ShiftAmount) × (cutOf w .op ≡ 0) × (cutOf w .funct ≡ rowOf k .code) ⌝ }
+    ensures { λ r. ⌜ r ≡ readAs k (cutOf w) ⌝ }
 {
+    let f = word::field::cut(w);
     legal_if(f.rs == 0, instruction(k, 0, f.rt, f.rd, f.shift, 0))
 }
 
-fn two_sources(k: Kind, f: Fields) -> Reading
-    requires { ⌜ (rowOf k .format ≡ F.TwoSources) × (f .op ≡ 0) × (f .funct ≡ rowOf k .code) ⌝ }
-    ensures { λ r. ⌜ r ≡ readAs k f ⌝ }
+fn two_sources(k: Kind, w: u32) -> Reading
+    requires { ⌜ (rowOf k .format ≡ F.TwoSources) × (cutOf w .op ≡ 0) × (cutOf w .funct ≡ rowOf k .code) ⌝ }
+    ensures { λ r. ⌜ r ≡ readAs k (cutOf w) ⌝ }
 {
+    let f = word::field::cut(w);
     legal_if(
         (f.rd == 0) & (f.shift == 0),
         instruction(k, f.rs, f.rt, 0, 0, 0),
     )
 }
 
-fn one_source(k: Kind, f: Fields) -> Reading
-    requires { ⌜ (rowOf k .format ≡ F.OneSource) × (f .op ≡ 0) × (f .funct ≡ rowOf k .code) ⌝ }
-    ensures { λ r. ⌜ r ≡ readAs k f ⌝ }
+fn one_source(k: Kind, w: u32) -> Reading
+    requires { ⌜ (rowOf k .format ≡ F.OneSource) × (cutOf w .op ≡ 0) × (cutOf w .funct ≡ rowOf k .code) ⌝ }
+    ensures { λ r. ⌜ r ≡ readAs k (cutOf w) ⌝ }
 {
+    let f = word::field::cut(w);
     legal_if(
         (f.rt == 0) & ((f.rd == 0) & (f.shift == 0)),
         instruction(k, f.rs, 0, 0, 0, 0),
     )
 }
 
-fn one_target(k: Kind, f: Fields) -> Reading
-    requires { ⌜ (rowOf k .format ≡ F.OneTarget) × (f .op ≡ 0) × (f .funct ≡ rowOf k .code) ⌝ }
-    ensures { λ r. ⌜ r ≡ readAs k f ⌝ }
+fn one_target(k: Kind, w: u32) -> Reading
+    requires { ⌜ (rowOf k .format ≡ F.OneTarget) × (cutOf w .op ≡ 0) × (cutOf w .funct ≡ rowOf k .code) ⌝ }
+    ensures { λ r. ⌜ r ≡ readAs k (cutOf w) ⌝ }
 {
+    let f = word::field::cut(w);
     legal_if(
         (f.rs == 0) & ((f.rt == 0) & (f.shift == 0)),
         instruction(k, 0, 0, f.rd, 0, 0),
     )
 }
 
-fn source_target(k: Kind, f: Fields) -> Reading
-    requires { ⌜ (rowOf k .format ≡ F.SourceTarget) × (f .op ≡ 0) × (f .funct ≡ rowOf k .code) ⌝ }
-    ensures { λ r. ⌜ r ≡ readAs k f ⌝ }
+fn source_target(k: Kind, w: u32) -> Reading
+    requires { ⌜ (rowOf k .format ≡ F.SourceTarget) × (cutOf w .op ≡ 0) × (cutOf w .funct ≡ rowOf k .code) ⌝ }
+    ensures { λ r. ⌜ r ≡ readAs k (cutOf w) ⌝ }
 {
+    let f = word::field::cut(w);
     legal_if(
         (f.rt == 0) & (f.shift == 0),
         instruction(k, f.rs, 0, f.rd, 0, 0),
     )
 }
 
-fn system_code(k: Kind, f: Fields) -> Reading
-    requires { ⌜ (rowOf k .format ≡ F.SystemCode) × (f .op ≡ 0) × (f .funct ≡ rowOf k .code) × Fit f ⌝ }
-    ensures { λ r. ⌜ r ≡ readAs k f ⌝ }
+fn system_code(k: Kind, w: u32) -> Reading
+    requires { ⌜ (rowOf k .format ≡ F.SystemCode) × (cutOf w .op ≡ 0) × (cutOf w .funct ≡ rowOf k .code) ⌝ }
+    ensures { λ r. ⌜ r ≡ readAs k (cutOf w) ⌝ }
 {
+    let f = word::field::cut(w);
     Reading::Legal(instruction(k, 0, 0, 0, 0, middle20(f)))
 }
 
-fn barrier(k: Kind, f: Fields) -> Reading
-    requires { ⌜ (rowOf k .format ≡ F.Barrier) × (f .op ≡ 0) × (f .funct ≡ rowOf k .code) ⌝ }
-    ensures { λ r. ⌜ r ≡ readAs k f ⌝ }
+fn barrier(k: Kind, w: u32) -> Reading
+    requires { ⌜ (rowOf k .format ≡ F.Barrier) × (cutOf w .op ≡ 0) × (cutOf w .funct ≡ rowOf k .code) ⌝ }
+    ensures { λ r. ⌜ r ≡ readAs k (cutOf w) ⌝ }
 {
+    let f = word::field::cut(w);
     legal_if(
         (f.rs == 0) & ((f.rt == 0) & (f.rd == 0)),
         instruction(k, 0, 0, 0, 0, f.shift),
     )
 }
 
-fn trap_code(k: Kind, f: Fields) -> Reading
-    requires { ⌜ (rowOf k .format ≡ F.TrapCode) × (f .op ≡ 0) × (f .funct ≡ rowOf k .code) × Fit f ⌝ }
-    ensures { λ r. ⌜ r ≡ readAs k f ⌝ }
+fn trap_code(k: Kind, w: u32) -> Reading
+    requires { ⌜ (rowOf k .format ≡ F.TrapCode) × (cutOf w .op ≡ 0) × (cutOf w .funct ≡ rowOf k .code) ⌝ }
+    ensures { λ r. ⌜ r ≡ readAs k (cutOf w) ⌝ }
 {
+    let f = word::field::cut(w);
     Reading::Legal(instruction(k, f.rs, f.rt, 0, 0, middle10(f)))
 }
 
-fn condition(k: Kind, f: Fields) -> Reading
-    requires { ⌜ (rowOf k .format ≡ F.Condition) × (f .op ≡ 1) × (f .rt ≡ rowOf k .code) × Fit f ⌝ }
-    ensures { λ r. ⌜ r ≡ readAs k f ⌝ }
+fn condition(k: Kind, w: u32) -> Reading
+    requires { ⌜ (rowOf k .format ≡ F.Condition) × (cutOf w .op ≡ 1) × (cutOf w .rt ≡ rowOf k .code) ⌝ }
+    ensures { λ r. ⌜ r ≡ readAs k (cutOf w) ⌝ }
 {
+    let f = word::field::cut(w);
     Reading::Legal(instruction(k, f.rs, 0, 0, 0, low16(f)))
 }
 
-fn jump_index(k: Kind, f: Fields) -> Reading
-    requires { ⌜ (rowOf k .format ≡ F.JumpIndex) × (f .op ≡ rowOf k .code) × Fit f ⌝ }
-    ensures { λ r. ⌜ r ≡ readAs k f ⌝ }
+fn jump_index(k: Kind, w: u32) -> Reading
+    requires { ⌜ (rowOf k .format ≡ F.JumpIndex) × (cutOf w .op ≡ rowOf k .code) ⌝ }
+    ensures { λ r. ⌜ r ≡ readAs k (cutOf w) ⌝ }
 {
+    let f = word::field::cut(w);
     Reading::Legal(instruction(k, 0, 0, 0, 0, low26(f)))
 }
 
-fn constant(k: Kind, f: Fields) -> Reading
-    requires { ⌜ (rowOf k .format ≡ F.Constant) × (f .op ≡ rowOf k .code) × Fit f ⌝ }
-    ensures { λ r. ⌜ r ≡ readAs k f ⌝ }
+fn constant(k: Kind, w: u32) -> Reading
+    requires { ⌜ (rowOf k .format ≡ F.Constant) × (cutOf w .op ≡ rowOf k .code) ⌝ }
+    ensures { λ r. ⌜ r ≡ readAs k (cutOf w) ⌝ }
 {
+    let f = word::field::cut(w);
     Reading::Legal(instruction(k, f.rs, f.rt, 0, 0, low16(f)))
 }
 
-fn branch_zero(k: Kind, f: Fields) -> Reading
-    requires { ⌜ (rowOf k .format ≡ F.BranchZero) × (f .op ≡ rowOf k .code) × Fit f ⌝ }
-    ensures { λ r. ⌜ r ≡ readAs k f ⌝ }
+fn branch_zero(k: Kind, w: u32) -> Reading
+    requires { ⌜ (rowOf k .format ≡ F.BranchZero) × (cutOf w .op ≡ rowOf k .code) ⌝ }
+    ensures { λ r. ⌜ r ≡ readAs k (cutOf w) ⌝ }
 {
+    let f = word::field::cut(w);
     legal_if(f.rt == 0, instruction(k, f.rs, 0, 0, 0, low16(f)))
 }
 
-fn upper_constant(k: Kind, f: Fields) -> Reading
-    requires { ⌜ (rowOf k .format ≡ F.UpperConstant) × (f .op ≡ rowOf k .code) × Fit f ⌝ }
-    ensures { λ r. ⌜ r ≡ readAs k f ⌝ }
+fn upper_constant(k: Kind, w: u32) -> Reading
+    requires { ⌜ (rowOf k .format ≡ F.UpperConstant) × (cutOf w .op ≡ rowOf k .code) ⌝ }
+    ensures { λ r. ⌜ r ≡ readAs k (cutOf w) ⌝ }
 {
+    let f = word::field::cut(w);
     legal_if(f.rs == 0, instruction(k, 0, f.rt, 0, 0, low16(f)))
 }
 
-fn control_move(k: Kind, f: Fields) -> Reading
-    requires { ⌜ (rowOf k .format ≡ F.ControlMove) × (f .op ≡ 16) × (f .rs ≡ rowOf k .code) ⌝ }
-    ensures { λ r. ⌜ r ≡ readAs k f ⌝ }
+fn control_move(k: Kind, w: u32) -> Reading
+    requires { ⌜ (rowOf k .format ≡ F.ControlMove) × (cutOf w .op ≡ 16) × (cutOf w .rs ≡ rowOf k .code) ⌝ }
+    ensures { λ r. ⌜ r ≡ readAs k (cutOf w) ⌝ }
 {
+    let f = word::field::cut(w);
     legal_if(
         is_control(f.rd) & ((f.shift == 0) & (f.funct == 0)),
         instruction(k, 0, f.rt, f.rd, 0, 0),
     )
 }
 
-fn exception_return(k: Kind, f: Fields) -> Reading
-    requires { ⌜ (rowOf k .format ≡ F.ExceptionReturn) × (f .op ≡ 16) × (f .rs ≡ rowOf k .code) ⌝ }
-    ensures { λ r. ⌜ r ≡ readAs k f ⌝ }
+fn exception_return(k: Kind, w: u32) -> Reading
+    requires { ⌜ (rowOf k .format ≡ F.ExceptionReturn) × (cutOf w .op ≡ 16) × (cutOf w .rs ≡ rowOf k .code) ⌝ }
+    ensures { λ r. ⌜ r ≡ readAs k (cutOf w) ⌝ }
 {
+    let f = word::field::cut(w);
     legal_if(
         (f.rt == 0) & ((f.rd == 0) & ((f.shift == 0) & (f.funct == 16))),
         instruction(k, 0, 0, 0, 0, 0),
@@ -228,119 +244,82 @@ fn exception_return(k: Kind, f: Fields) -> Reading
 // ---- one line for each instruction: the tables of codes
 
 // Opcode SPECIAL: told by the function field.
-fn special(f: Fields) -> Reading
-    requires { ⌜ (f .op ≡ 0) × Fit f ⌝ }
-    ensures { λ r. ⌜ r ≡ readFields f ⌝ }
+fn special(w: u32) -> Reading
+    requires { ⌜ cutOf w .op ≡ 0 ⌝ }
+    ensures { λ r. ⌜ r ≡ readFields (cutOf w) ⌝ }
 {
-    let code = f.funct;
+    let code = word::field::funct(w);
     match code {
-        0 => shift_amount(Kind::Shift(Shift::Sll), f),
-        2 => shift_amount(Kind::Shift(Shift::Srl), f),
-        3 => shift_amount(Kind::Shift(Shift::Sra), f),
-        4 => three_registers(Kind::Shift(Shift::Sllv), f),
-        6 => three_registers(Kind::Shift(Shift::Srlv), f),
-        7 => three_registers(Kind::Shift(Shift::Srav), f),
-        8 => one_source(Kind::Branch(Branch::Jr), f),
-        9 => source_target(Kind::Branch(Branch::Jalr), f),
-        12 => system_code(Kind::System(System::Syscall), f),
-        13 => system_code(Kind::System(System::Break), f),
-        15 => barrier(Kind::System(System::Sync), f),
-        16 => one_target(Kind::Multiply(Multiply::Mfhi), f),
-        17 => one_source(Kind::Multiply(Multiply::Mthi), f),
-        18 => one_target(Kind::Multiply(Multiply::Mflo), f),
-        19 => one_source(Kind::Multiply(Multiply::Mtlo), f),
-        24 => two_sources(Kind::Multiply(Multiply::Mult), f),
-        25 => two_sources(Kind::Multiply(Multiply::Multu), f),
-        26 => two_sources(Kind::Multiply(Multiply::Div), f),
-        27 => two_sources(Kind::Multiply(Multiply::Divu), f),
-        32 => three_registers(Kind::Alu(Alu::Add), f),
-        33 => three_registers(Kind::Alu(Alu::Addu), f),
-        34 => three_registers(Kind::Alu(Alu::Sub), f),
-        35 => three_registers(Kind::Alu(Alu::Subu), f),
-        36 => three_registers(Kind::Alu(Alu::And), f),
-        37 => three_registers(Kind::Alu(Alu::Or), f),
-        38 => three_registers(Kind::Alu(Alu::Xor), f),
-        39 => three_registers(Kind::Alu(Alu::Nor), f),
-        42 => three_registers(Kind::Alu(Alu::Slt), f),
-        43 => three_registers(Kind::Alu(Alu::Sltu), f),
-        48 => trap_code(Kind::Trap(Trap::Tge), f),
-        49 => trap_code(Kind::Trap(Trap::Tgeu), f),
-        50 => trap_code(Kind::Trap(Trap::Tlt), f),
-        51 => trap_code(Kind::Trap(Trap::Tltu), f),
-        52 => trap_code(Kind::Trap(Trap::Teq), f),
-        54 => trap_code(Kind::Trap(Trap::Tne), f),
+        0 => shift_amount(Kind::Shift(Shift::Sll), w),
+        2 => shift_amount(Kind::Shift(Shift::Srl), w),
+        3 => shift_amount(Kind::Shift(Shift::Sra), w),
+        4 => three_registers(Kind::Shift(Shift::Sllv), w),
+        6 => three_registers(Kind::Shift(Shift::Srlv), w),
+        7 => three_registers(Kind::Shift(Shift::Srav), w),
+        8 => one_source(Kind::Branch(Branch::Jr), w),
+        9 => source_target(Kind::Branch(Branch::Jalr), w),
+        12 => system_code(Kind::System(System::Syscall), w),
+        13 => system_code(Kind::System(System::Break), w),
+        15 => barrier(Kind::System(System::Sync), w),
+        16 => one_target(Kind::Multiply(Multiply::Mfhi), w),
+        17 => one_source(Kind::Multiply(Multiply::Mthi), w),
+        18 => one_target(Kind::Multiply(Multiply::Mflo), w),
+        19 => one_source(Kind::Multiply(Multiply::Mtlo), w),
+        24 => two_sources(Kind::Multiply(Multiply::Mult), w),
+        25 => two_sources(Kind::Multiply(Multiply::Multu), w),
+        26 => two_sources(Kind::Multiply(Multiply::Div), w),
+        27 => two_sources(Kind::Multiply(Multiply::Divu), w),
+        32 => three_registers(Kind::Alu(Alu::Add), w),
+        33 => three_registers(Kind::Alu(Alu::Addu), w),
+        34 => three_registers(Kind::Alu(Alu::Sub), w),
+        35 => three_registers(Kind::Alu(Alu::Subu), w),
+        36 => three_registers(Kind::Alu(Alu::And), w),
+        37 => three_registers(Kind::Alu(Alu::Or), w),
+        38 => three_registers(Kind::Alu(Alu::Xor), w),
+        39 => three_registers(Kind::Alu(Alu::Nor), w),
+        42 => three_registers(Kind::Alu(Alu::Slt), w),
+        43 => three_registers(Kind::Alu(Alu::Sltu), w),
+        48 => trap_code(Kind::Trap(Trap::Tge), w),
+        49 => trap_code(Kind::Trap(Trap::Tgeu), w),
+        50 => trap_code(Kind::Trap(Trap::Tlt), w),
+        51 => trap_code(Kind::Trap(Trap::Tltu), w),
+        52 => trap_code(Kind::Trap(Trap::Teq), w),
+        54 => trap_code(Kind::Trap(Trap::Tne), w),
         _ => Reading::NoInstruction,
     }
 }
 
 // Opcode REGIMM: told by the field rt.
-fn regimm(f: Fields) -> Reading
-    requires { ⌜ (f .op ≡ 1) × Fit f ⌝ }
-    ensures { λ r. ⌜ r ≡ readFields f ⌝ }
+fn regimm(w: u32) -> Reading
+    requires { ⌜ cutOf w .op ≡ 1 ⌝ }
+    ensures { λ r. ⌜ r ≡ readFields (cutOf w) ⌝ }
 {
-    let code = f.rt;
+    let code = word::field::rt(w);
     match code {
-        0 => condition(Kind::Branch(Branch::Bltz), f),
-        1 => condition(Kind::Branch(Branch::Bgez), f),
-        8 => condition(Kind::Trap(Trap::Tgei), f),
-        9 => condition(Kind::Trap(Trap::Tgeiu), f),
-        10 => condition(Kind::Trap(Trap::Tlti), f),
-        11 => condition(Kind::Trap(Trap::Tltiu), f),
-        12 => condition(Kind::Trap(Trap::Teqi), f),
-        14 => condition(Kind::Trap(Trap::Tnei), f),
-        16 => condition(Kind::Branch(Branch::Bltzal), f),
-        17 => condition(Kind::Branch(Branch::Bgezal), f),
+        0 => condition(Kind::Branch(Branch::Bltz), w),
+        1 => condition(Kind::Branch(Branch::Bgez), w),
+        8 => condition(Kind::Trap(Trap::Tgei), w),
+        9 => condition(Kind::Trap(Trap::Tgeiu), w),
+        10 => condition(Kind::Trap(Trap::Tlti), w),
+        11 => condition(Kind::Trap(Trap::Tltiu), w),
+        12 => condition(Kind::Trap(Trap::Teqi), w),
+        14 => condition(Kind::Trap(Trap::Tnei), w),
+        16 => condition(Kind::Branch(Branch::Bltzal), w),
+        17 => condition(Kind::Branch(Branch::Bgezal), w),
         _ => Reading::NoInstruction,
     }
 }
 
 // Opcode COP0: told by the field rs.
-fn cop0(f: Fields) -> Reading
-    requires { ⌜ (f .op ≡ 16) × Fit f ⌝ }
-    ensures { λ r. ⌜ r ≡ readFields f ⌝ }
+fn cop0(w: u32) -> Reading
+    requires { ⌜ cutOf w .op ≡ 16 ⌝ }
+    ensures { λ r. ⌜ r ≡ readFields (cutOf w) ⌝ }
 {
-    let code = f.rs;
+    let code = word::field::rs(w);
     match code {
-        0 => control_move(Kind::System(System::Mfc0), f),
-        4 => control_move(Kind::System(System::Mtc0), f),
-        16 => exception_return(Kind::System(System::Rfe), f),
-        _ => Reading::NoInstruction,
-    }
-}
-
-fn read_fields(f: Fields) -> Reading
-    requires { ⌜ Fit f ⌝ }
-    ensures { λ r. ⌜ r ≡ readFields f ⌝ }
-{
-    let code = f.op;
-    match code {
-        0 => special(f),
-        1 => regimm(f),
-        16 => cop0(f),
-        2 => jump_index(Kind::Branch(Branch::J), f),
-        3 => jump_index(Kind::Branch(Branch::Jal), f),
-        4 => constant(Kind::Branch(Branch::Beq), f),
-        5 => constant(Kind::Branch(Branch::Bne), f),
-        6 => branch_zero(Kind::Branch(Branch::Blez), f),
-        7 => branch_zero(Kind::Branch(Branch::Bgtz), f),
-        8 => constant(Kind::Immediate(Immediate::Addi), f),
-        9 => constant(Kind::Immediate(Immediate::Addiu), f),
-        10 => constant(Kind::Immediate(Immediate::Slti), f),
-        11 => constant(Kind::Immediate(Immediate::Sltiu), f),
-        12 => constant(Kind::Immediate(Immediate::Andi), f),
-        13 => constant(Kind::Immediate(Immediate::Ori), f),
-        14 => constant(Kind::Immediate(Immediate::Xori), f),
-        15 => upper_constant(Kind::Immediate(Immediate::Lui), f),
-        32 => constant(Kind::Access(Access::Lb), f),
-        33 => constant(Kind::Access(Access::Lh), f),
-        35 => constant(Kind::Access(Access::Lw), f),
-        36 => constant(Kind::Access(Access::Lbu), f),
-        37 => constant(Kind::Access(Access::Lhu), f),
-        40 => constant(Kind::Access(Access::Sb), f),
-        41 => constant(Kind::Access(Access::Sh), f),
-        43 => constant(Kind::Access(Access::Sw), f),
-        48 => constant(Kind::Access(Access::Ll), f),
-        56 => constant(Kind::Access(Access::Sc), f),
+        0 => control_move(Kind::System(System::Mfc0), w),
+        4 => control_move(Kind::System(System::Mtc0), w),
+        16 => exception_return(Kind::System(System::Rfe), w),
         _ => Reading::NoInstruction,
     }
 }
@@ -348,5 +327,35 @@ fn read_fields(f: Fields) -> Reading
 pub fn read(w: u32) -> Reading
     ensures { λ r. ⌜ r ≡ readOf w ⌝ }
 {
-    read_fields(word::field::cut(w))
+    let code = word::field::opcode(w);
+    match code {
+        0 => special(w),
+        1 => regimm(w),
+        16 => cop0(w),
+        2 => jump_index(Kind::Branch(Branch::J), w),
+        3 => jump_index(Kind::Branch(Branch::Jal), w),
+        4 => constant(Kind::Branch(Branch::Beq), w),
+        5 => constant(Kind::Branch(Branch::Bne), w),
+        6 => branch_zero(Kind::Branch(Branch::Blez), w),
+        7 => branch_zero(Kind::Branch(Branch::Bgtz), w),
+        8 => constant(Kind::Immediate(Immediate::Addi), w),
+        9 => constant(Kind::Immediate(Immediate::Addiu), w),
+        10 => constant(Kind::Immediate(Immediate::Slti), w),
+        11 => constant(Kind::Immediate(Immediate::Sltiu), w),
+        12 => constant(Kind::Immediate(Immediate::Andi), w),
+        13 => constant(Kind::Immediate(Immediate::Ori), w),
+        14 => constant(Kind::Immediate(Immediate::Xori), w),
+        15 => upper_constant(Kind::Immediate(Immediate::Lui), w),
+        32 => constant(Kind::Access(Access::Lb), w),
+        33 => constant(Kind::Access(Access::Lh), w),
+        35 => constant(Kind::Access(Access::Lw), w),
+        36 => constant(Kind::Access(Access::Lbu), w),
+        37 => constant(Kind::Access(Access::Lhu), w),
+        40 => constant(Kind::Access(Access::Sb), w),
+        41 => constant(Kind::Access(Access::Sh), w),
+        43 => constant(Kind::Access(Access::Sw), w),
+        48 => constant(Kind::Access(Access::Ll), w),
+        56 => constant(Kind::Access(Access::Sc), w),
+        _ => Reading::NoInstruction,
+    }
 }

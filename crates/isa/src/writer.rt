@@ -117,10 +117,10 @@ pub fn write(i: Instruction) -> Written
     ensures { λ r. ⌜ r ≡ writeOf i ⌝ }
 {
     let kind = i.kind;
-    let row = crate::format::row_of(kind);
-    let format = row.format;
+    let shape = crate::format::shape_of(kind);
+    let format = shape.format;
     let d = crate::format::drawing_of(format);
-    let e = encode(d, row.code, i);
+    let e = encode(d, shape.code, i);
     if is_legal(d, i, e.rest) {
         let fields = e.fields;
         Written::Word(word::field::join(fields))

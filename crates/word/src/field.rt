@@ -25,6 +25,34 @@ pub fn cut(w: u32) -> Fields
     }
 }
 
+pub fn opcode(w: u32) -> u32
+    ensures { λ r. ⌜ r ≡ cutOf w .op ⌝ }
+{
+    let f = cut(w);
+    f.op
+}
+
+pub fn rs(w: u32) -> u32
+    ensures { λ r. ⌜ r ≡ cutOf w .rs ⌝ }
+{
+    let f = cut(w);
+    f.rs
+}
+
+pub fn rt(w: u32) -> u32
+    ensures { λ r. ⌜ r ≡ cutOf w .rt ⌝ }
+{
+    let f = cut(w);
+    f.rt
+}
+
+pub fn funct(w: u32) -> u32
+    ensures { λ r. ⌜ r ≡ cutOf w .funct ⌝ }
+{
+    let f = cut(w);
+    f.funct
+}
+
 pub fn join(f: Fields) -> u32
     requires { ⌜ Fit f ⌝ }
     ensures { λ r. ⌜ r ≡ joinOf f ⌝ }

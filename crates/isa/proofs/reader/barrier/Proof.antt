@@ -1,12 +1,19 @@
-use Rattle.isa.proofs.Formats.{barrier}
+use mathlib.Core.Path.{ap, refl, _∙_}
 use borrow.Author.Needs.{needs}
+use Rattle.word.specs.declared.field.Fields.{Fields}
+use Rattle.isa.specs.Reading.{readAs}
+use Rattle.isa.proofs.Formats.{barrier}
 use Rattle.isa.proofs.reader.barrier.Statement.{statement}
 use Rattle.isa.proofs.reader.barrier.Tie as tie
 
 returns : tie.Need-returns
 returns c =
-    let s = c .before .before .before .before .before in
-    barrier (s .args .k) (s .args .f) (s .pre .0) (s .pre .1) (s .pre .2) (c .before .instruction .ensures) (c .legal-if .ensures)
+    let s = c .before .before .before .before .before .before in
+    let f = c .before .before .before .before .before .cut .result in
+    let e = c .before .before .before .before .before .cut .ensures .0 in
+    barrier (s .args .k) f (s .pre .0) (ap (λ (x : Fields). x .op) e ∙ s .pre .1) (ap (λ (x : Fields). x .funct) e ∙ s .pre .2)
+    (c .before .instruction .ensures) (c .legal-if .ensures)
+    ∙ ap (readAs (s .args .k)) e
 
 pub barrier-spec : {M : Type 1} → statement M
-barrier-spec = tie.close (tie.spec (λ c κs. search needs) (λ c κs. search needs) returns)
+barrier-spec = tie.close (tie.spec (λ c κs. search needs) (λ c κs. search needs) (λ c κs. search needs) returns)

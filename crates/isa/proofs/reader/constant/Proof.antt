@@ -1,13 +1,19 @@
-use mathlib.Core.Path.{refl}
-use Rattle.isa.proofs.Formats.{constant}
+use mathlib.Core.Path.{ap, refl, _∙_}
 use borrow.Author.Needs.{needs}
+use Rattle.word.specs.declared.field.Fields.{Fields}
+use Rattle.isa.specs.Reading.{readAs}
+use Rattle.isa.proofs.Formats.{constant}
 use Rattle.isa.proofs.reader.constant.Statement.{statement}
 use Rattle.isa.proofs.reader.constant.Tie as tie
 
 returns : tie.Need-returns
 returns c =
-    let s = c .before .before in
-    constant (s .args .k) (s .args .f) (s .pre .0) (s .pre .1) (c .before .low16 .ensures) (c .instruction .ensures) refl
+    let s = c .before .before .before in
+    let f = c .before .before .cut .result in
+    let e = c .before .before .cut .ensures .0 in
+    constant (s .args .k) f (s .pre .0) (ap (λ (x : Fields). x .op) e ∙ s .pre .1)
+    (c .before .low16 .ensures) (c .instruction .ensures) refl
+    ∙ ap (readAs (s .args .k)) e
 
 pub constant-spec : {M : Type 1} → statement M
-constant-spec = tie.close (tie.spec (λ c κs. search needs) (λ c κs. search needs) returns)
+constant-spec = tie.close (tie.spec (λ c κs. search needs) (λ c κs. c .cut .ensures .1) (λ c κs. search needs) returns)

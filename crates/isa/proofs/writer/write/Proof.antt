@@ -8,24 +8,24 @@ join-requires : tie.Need-join-requires
 join-requires c κs =
     let s = c .before .before .before .before .before .before in
     written-fit (s .args .i)
-    (drawing-found (s .args .i) (c .before .before .before .before .before .row-of .ensures) (c .before .before .before .before .drawing-of .ensures))
-    (ap code (c .before .before .before .before .before .row-of .ensures))
+    (drawing-found (s .args .i) (c .before .before .before .before .before .shape-of .ensures) (c .before .before .before .before .drawing-of .ensures))
+    (ap code (c .before .before .before .before .before .shape-of .ensures))
     (c .before .before .before .encode .ensures .0) (c .before .before .is-legal .ensures) (c .before .if1 .taken)
 
 returns : tie.Need-returns
 returns c =
     let s = c .before .before .before .before .before .before .before in
     written (s .args .i)
-    (drawing-found (s .args .i) (c .before .before .before .before .before .before .row-of .ensures) (c .before .before .before .before .before .drawing-of .ensures))
-    (ap code (c .before .before .before .before .before .before .row-of .ensures))
+    (drawing-found (s .args .i) (c .before .before .before .before .before .before .shape-of .ensures) (c .before .before .before .before .before .drawing-of .ensures))
+    (ap code (c .before .before .before .before .before .before .shape-of .ensures))
     (c .before .before .before .before .encode .ensures .0) (c .before .before .before .is-legal .ensures) (c .before .before .if1 .taken) (c .join .ensures)
 
 returns-2 : tie.Need-returns-2
 returns-2 c =
     let s = c .before .before .before .before .before in
     refused (s .args .i)
-    (drawing-found (s .args .i) (c .before .before .before .before .row-of .ensures) (c .before .before .before .drawing-of .ensures))
-    (ap code (c .before .before .before .before .row-of .ensures))
+    (drawing-found (s .args .i) (c .before .before .before .before .shape-of .ensures) (c .before .before .before .drawing-of .ensures))
+    (ap code (c .before .before .before .before .shape-of .ensures))
     (c .before .before .encode .ensures .0) (c .before .is-legal .ensures) (c .if1 .left)
 
 pub write-spec : {M : Type 1} → statement M
