@@ -1,16 +1,14 @@
 -- Instructions by number: a number that no instruction has.
 use mathlib.Core.Path.{_≡_, refl, sym}
-use mathlib.Core.Bool.{Bool}
 use mathlib.Core.List.{List, [], _∷_}
 use Prim.Native.Nat.{ℕ}
 use lib.Dec.{T}
 use borrow.Author.Tests.{ne-eqb}
 use Rattle.isa.specs.declared.kind.Kind.{Kind}
 use Rattle.isa.specs.Table.{instructions}
-use Rattle.isa.proofs.Codes.{every, every-kind, both}
+use Rattle.isa.proofs.Codes.{every, both}
 use Rattle.isa.proofs.Arms.{Avoids, member, not-member}
-use Rattle.cc100.specs.declared.number.Numbered.{Numbered}
-use Rattle.cc100.specs.declared.number.Numbered.the-variants.{Known, Unknown}
+use Rattle.cc100.specs.declared.number.Numbered.the-variants.{Unknown}
 use Rattle.cc100.specs.Number.{numberOf, numbered, kindOf}
 
 none-of : (l : List ℕ) (n : ℕ) → Avoids n l → (ks : List Kind) → T (every (λ k. member (numberOf k) l) ks) → numbered ks n ≡ Unknown

@@ -3,13 +3,13 @@ use Prim.Native.Nat.{ℕ}
 use Rattle.isa.specs.declared.reader.Reading.{Reading}
 use Rattle.isa.specs.declared.reader.Reading.the-variants.{Legal, NoInstruction}
 use Rattle.isa.specs.declared.writer.Written.{Written}
-use Rattle.isa.specs.Reading.{made, readOf}
+use Rattle.isa.specs.Reading.{made}
 use Rattle.isa.specs.Writing as W
 use Rattle.cc100.specs.declared.number.Numbered.{Numbered}
 use Rattle.cc100.specs.declared.number.Numbered.the-variants.{Known, Unknown}
 use Rattle.cc100.specs.declared.instruction.ReadAnswer.{ReadAnswer}
 use Rattle.cc100.specs.declared.instruction.WriteAnswer.{WriteAnswer}
-use Rattle.cc100.specs.Number.{numberOf, kindOf}
+use Rattle.cc100.specs.Number.{numberOf}
 
 abbrev pub readNumbers : ℕ → ℕ → ℕ → ℕ → ℕ → ℕ → ReadAnswer
 readNumbers k s t d h v = record { kind = k; rs = s; rt = t; rd = d; shift = h; value = v }

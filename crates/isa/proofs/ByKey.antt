@@ -16,7 +16,7 @@ use Rattle.isa.specs.declared.reader.Reading.{Reading}
 use Rattle.isa.specs.declared.reader.Reading.the-variants.{Legal, NoInstruction}
 use Rattle.isa.specs.Table.{rowOf, instructions}
 use Rattle.isa.specs.Drawing.{drawingOf}
-use Rattle.isa.specs.Reading.{fits, decodeOf, drawingFor, fitsKind, legalIf, readAs, readFrom, readFields, readOf}
+use Rattle.isa.specs.Reading.{decodeOf, drawingFor, fitsKind, readAs, readFrom, readFields, readOf}
 use Rattle.isa.proofs.Codes.{tableOf, keyOf, keyIn, Found, found, nothing, lookup, found-self, every-kind, both, fresh, distinct, distinct-keys}
 use Rattle.isa.proofs.Roles.{is-true}
 use Rattle.isa.proofs.Drawings.{Matched, matched}

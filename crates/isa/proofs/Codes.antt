@@ -1,11 +1,10 @@
 -- A kind is found by its code: the table that its opcode leads to, and its place there. No two kinds have the same one.
-use mathlib.Core.Path.{_≡_, refl, ap, sym, _∙_, subst}
-use mathlib.Core.Bool.{Bool, true, false, cond, not, _&&_, _||_}
-use mathlib.Core.List.{List, [], _∷_}
-use Prim.Native.Nat.{ℕ, _+_, _*_, _<_}
+use mathlib.Core.Path.{_≡_, refl, subst}
+use mathlib.Core.Bool.{Bool, true, false, cond, not, _&&_}
+use mathlib.Core.List.{List, [], _∷_, map}
+use Prim.Native.Nat.{ℕ, zero, suc, _+_, _*_}
 use native.Mathlib.Omega.{arith}
-use lib.Dec.{T, eqb, ltb, eqb→eq, ltb→lt, T-not, not-T}
-use borrow.Author.Tests.{eq-eqb, ne-eqb, eqb-true, eqb-false}
+use lib.Dec.{T, eqb}
 use Rattle.word.specs.declared.field.Fields.{Fields}
 use Rattle.isa.specs.declared.kind.Alu.the-variants.{Add, Addu, Sub, Subu, Slt, Sltu, And, Or, Xor, Nor}
 use Rattle.isa.specs.declared.kind.Immediate.the-variants.{Addi, Addiu, Slti, Sltiu, Andi, Ori, Xori, Lui}
@@ -163,3 +162,11 @@ distinct (k ∷ ks) = fresh (keyOf k) ks && distinct ks
 
 pub distinct-keys : T (distinct instructions)
 distinct-keys = tt
+
+-- the numbers are the places in the list, from 1 to 72
+abbrev counted : ℕ → ℕ → List ℕ
+counted zero n = []
+counted (suc k) n = n ∷ counted k (suc n)
+
+pub numbers-in-order : map (λ (k : Kind). rowOf k .number) instructions ≡ counted 72 1
+numbers-in-order = refl

@@ -1,17 +1,17 @@
 -- A drawing's tests taken apart: what is computed for all kinds at once, what a word that fits says, and what a legal instruction says.
-use mathlib.Core.Path.{_≡_, refl}
-use mathlib.Core.Bool.{Bool, true, false, _&&_}
-use Prim.Native.Nat.{ℕ, _<_, _^_}
-use lib.Dec.{T, eqb, eqb→eq}
+use mathlib.Core.Path.{_≡_}
+use mathlib.Core.Bool.{Bool, true, _&&_}
+use Prim.Native.Nat.{ℕ}
+use lib.Dec.{T, eqb→eq}
 use borrow.Author.Tests.{eq-eqb}
 use Rattle.word.specs.declared.field.Fields.{Fields}
 use Rattle.isa.specs.declared.kind.Kind.{Kind}
 use Rattle.isa.specs.declared.kind.Instruction.{Instruction}
 use Rattle.isa.specs.declared.format.Drawing.{Drawing}
-use Rattle.isa.specs.Table.{rowOf, instructions}
+use Rattle.isa.specs.Table.{rowOf}
 use Rattle.isa.specs.Reading.{accepts, fits, drawingFor}
 use Rattle.isa.specs.Writing.{operandFits, restRs, legal}
-use Rattle.isa.proofs.Codes.{both, every, every-kind}
+use Rattle.isa.proofs.Codes.{both, every-kind}
 use Rattle.isa.proofs.Roles.{noOperand, isFixed, hasRoom, is-true}
 
 pub and-true : {a b : Bool} → a ≡ true → b ≡ true → (a && b) ≡ true

@@ -1,20 +1,18 @@
 -- What the parts of a writing say, put together.
 use mathlib.Core.Path.{_≡_, refl, ap, sym, _∙_, subst}
-use mathlib.Core.Bool.{Bool, true, false, cond, _&&_}
+use mathlib.Core.Bool.{Bool, true, false, _&&_}
 use Prim.Native.Nat.{ℕ}
 use lib.Dec.{T, eqb}
 use Rattle.word.specs.declared.field.Fields.{Fields}
 use Rattle.word.specs.Field.{joinOf, Fit}
 use Rattle.isa.specs.declared.kind.Instruction.{Instruction}
-use Rattle.isa.specs.declared.format.Format.{Format}
 use Rattle.isa.specs.declared.format.Shape.{Shape}
 use Rattle.isa.specs.declared.format.Drawing.{Drawing}
-use Rattle.isa.specs.declared.writer.Written.{Written}
 use Rattle.isa.specs.declared.writer.Written.the-variants.{Word, Refused}
 use Rattle.isa.specs.Table.{rowOf, shapeIn}
 use Rattle.isa.specs.Drawing.{drawingOf}
 use Rattle.isa.specs.Reading.{drawingFor}
-use Rattle.isa.specs.Writing.{operandFits, fieldOf, rest, restFunct, restShift, restRd, restRt, restRs, encodeOf, legal, writeOf}
+use Rattle.isa.specs.Writing.{operandFits, fieldOf, rest, restRs, encodeOf, legal, writeOf}
 use Rattle.isa.proofs.Drawings.{drawing-sound, legals}
 use Rattle.isa.proofs.RoundTrip.{encode-fit}
 

@@ -1,5 +1,5 @@
 -- The reader's format functions: the test of the bits that must be zero says just whether the fields fit the format's drawing.
-use mathlib.Core.Path.{_≡_, refl, ap, sym, _∙_, subst}
+use mathlib.Core.Path.{_≡_, refl, sym, subst}
 use mathlib.Core.Bool.{Bool, true, false, _&&_}
 use Prim.Native.Nat.{ℕ, _+_, _*_, _^_}
 use native.Mathlib.Omega.{arith}
@@ -10,11 +10,10 @@ use Rattle.isa.specs.declared.kind.Kind.{Kind}
 use Rattle.isa.specs.declared.kind.Instruction.{Instruction}
 use Rattle.isa.specs.declared.format.Format.{Format}
 use Rattle.isa.specs.declared.format.Format.the-variants.{ThreeRegisters, ShiftAmount, TwoSources, OneSource, OneTarget, SourceTarget, SystemCode, Barrier, TrapCode, Condition, JumpIndex, Constant, BranchZero, UpperConstant, ControlMove, ExceptionReturn}
-use Rattle.isa.specs.declared.format.Drawing.{Drawing}
 use Rattle.isa.specs.declared.reader.Reading.{Reading}
 use Rattle.isa.specs.Table.{rowOf}
 use Rattle.isa.specs.Drawing.{drawingOf}
-use Rattle.isa.specs.Reading.{isControl, operand, fits, valueOf, made, decodeOf, drawingFor, legalIf, readAs}
+use Rattle.isa.specs.Reading.{isControl, operand, fits, valueOf, made, decodeOf, legalIf, readAs}
 use Rattle.isa.proofs.Codes.{both}
 use Rattle.isa.proofs.Drawings.{Matched, matched, matching}
 use Rattle.isa.proofs.ByKey.{not-so}

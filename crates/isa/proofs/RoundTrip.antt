@@ -1,7 +1,7 @@
 -- Reading and writing undo each other: for every word below 2^32 and every instruction.
 use mathlib.Core.Path.{_≡_, refl, ap, sym, _∙_, subst}
-use mathlib.Core.Bool.{Bool, true, false, cond, _&&_}
-use Prim.Native.Nat.{ℕ, _+_, _*_, _/_, _%_, _^_, _<_, _≤_}
+use mathlib.Core.Bool.{Bool, true, false, cond}
+use Prim.Native.Nat.{ℕ, _^_, _<_}
 use native.Mathlib.Omega.{arith}
 use lib.Dec.{T}
 use Rattle.word.specs.declared.field.Fields.{Fields}
@@ -11,13 +11,11 @@ use Rattle.isa.specs.declared.kind.Kind.{Kind}
 use Rattle.isa.specs.declared.kind.Instruction.{Instruction}
 use Rattle.isa.specs.declared.format.Role.{Role}
 use Rattle.isa.specs.declared.format.Drawing.{Drawing}
-use Rattle.isa.specs.declared.reader.Reading.{Reading}
-use Rattle.isa.specs.declared.reader.Reading.the-variants.{Legal, NoInstruction}
-use Rattle.isa.specs.declared.writer.Written.{Written}
+use Rattle.isa.specs.declared.reader.Reading.the-variants.{Legal}
 use Rattle.isa.specs.declared.writer.Written.the-variants.{Word, Refused}
 use Rattle.isa.specs.Table.{rowOf}
-use Rattle.isa.specs.Reading.{accepts, operand, append, valueOf, fits, decodeOf, drawingFor, fitsKind, readFields, readOf}
-use Rattle.isa.specs.Writing.{operandFits, fieldOf, rest, restFunct, restShift, restRd, restRt, restRs, encodeOf, legal, writeOf}
+use Rattle.isa.specs.Reading.{operand, append, valueOf, decodeOf, drawingFor, fitsKind, readFields, readOf}
+use Rattle.isa.specs.Writing.{fieldOf, rest, restFunct, restShift, restRd, restRt, restRs, encodeOf, legal, writeOf}
 use Rattle.isa.proofs.Roles.{field-back, rest-back, value-back, operand-back, accepted, field-lt, fits-back, no-operand, nothing-fits, fixed-fits, fixed-back, operand-lt}
 use Rattle.isa.proofs.Drawings.{Sound, drawing-sound, Matched, matched, matching, Legals, legals, legality}
 use Rattle.isa.proofs.ByKey.{Came, came, read-fits}

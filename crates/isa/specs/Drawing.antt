@@ -1,5 +1,4 @@
 -- The drawings of instruction words (document 004, section 1.2): what each of a word's six fields holds, one line for each format.
-use Prim.Native.Nat.{ℕ}
 use Rattle.isa.specs.declared.format.Format.{Format}
 use Rattle.isa.specs.declared.format.Format.the-variants.{ThreeRegisters, ShiftAmount, TwoSources, OneSource, OneTarget, SourceTarget, SystemCode, Barrier, TrapCode, Condition, JumpIndex, Constant, BranchZero, UpperConstant, ControlMove, ExceptionReturn}
 use Rattle.isa.specs.declared.format.Role.{Role}
@@ -15,13 +14,13 @@ abbrev pub blank : Role
 blank = Fixed 0
 
 abbrev pub special : Role
-special = Fixed 0
+special = Fixed 0b000000
 
 abbrev pub regimm : Role
-regimm = Fixed 1
+regimm = Fixed 0b000001
 
 abbrev pub cop0 : Role
-cop0 = Fixed 16
+cop0 = Fixed 0b010000
 
 abbrev pub drawingOf : Format → Drawing
 drawingOf ThreeRegisters = drawn special Operand Operand Operand blank Code
@@ -39,4 +38,4 @@ drawingOf Constant = drawn Code Operand Operand Part Part Part
 drawingOf BranchZero = drawn Code Operand blank Part Part Part
 drawingOf UpperConstant = drawn Code blank Operand Part Part Part
 drawingOf ControlMove = drawn cop0 Code Operand Control blank blank
-drawingOf ExceptionReturn = drawn cop0 Code blank blank blank (Fixed 16)
+drawingOf ExceptionReturn = drawn cop0 Code blank blank blank (Fixed 0b010000)

@@ -76,7 +76,7 @@ legalIf t i = cond t (Legal i) NoInstruction
 unfoldable pub readAs : Kind → Fields → Reading
 readAs k f = legalIf (fitsKind k f) (decodeOf k (drawingFor k) f)
 
--- the first instruction of the list whose drawing the fields fit; no two have the same fields (`unique` of proofs/RoundTrip)
+-- the first instruction of the list whose drawing the fields fit; no fields fit two of them (`unique` of proofs/RoundTrip)
 abbrev pub readFrom : List Kind → Fields → Reading
 readFrom [] f = NoInstruction
 readFrom (k ∷ ks) f = cond (fitsKind k f) (Legal (decodeOf k (drawingFor k) f)) (readFrom ks f)

@@ -71,16 +71,16 @@ fn alu_shape(k: Alu) -> Shape
     ensures { λ r. ⌜ r ≡ T.shapeIn (T.aluRow k) ⌝ }
 {
     match k {
-        Alu::Add => shaped(Format::ThreeRegisters, 32),
-        Alu::Addu => shaped(Format::ThreeRegisters, 33),
-        Alu::Sub => shaped(Format::ThreeRegisters, 34),
-        Alu::Subu => shaped(Format::ThreeRegisters, 35),
-        Alu::Slt => shaped(Format::ThreeRegisters, 42),
-        Alu::Sltu => shaped(Format::ThreeRegisters, 43),
-        Alu::And => shaped(Format::ThreeRegisters, 36),
-        Alu::Or => shaped(Format::ThreeRegisters, 37),
-        Alu::Xor => shaped(Format::ThreeRegisters, 38),
-        Alu::Nor => shaped(Format::ThreeRegisters, 39),
+        Alu::Add => shaped(Format::ThreeRegisters, 0b100000),
+        Alu::Addu => shaped(Format::ThreeRegisters, 0b100001),
+        Alu::Sub => shaped(Format::ThreeRegisters, 0b100010),
+        Alu::Subu => shaped(Format::ThreeRegisters, 0b100011),
+        Alu::Slt => shaped(Format::ThreeRegisters, 0b101010),
+        Alu::Sltu => shaped(Format::ThreeRegisters, 0b101011),
+        Alu::And => shaped(Format::ThreeRegisters, 0b100100),
+        Alu::Or => shaped(Format::ThreeRegisters, 0b100101),
+        Alu::Xor => shaped(Format::ThreeRegisters, 0b100110),
+        Alu::Nor => shaped(Format::ThreeRegisters, 0b100111),
     }
 }
 
@@ -88,14 +88,14 @@ fn immediate_shape(k: Immediate) -> Shape
     ensures { λ r. ⌜ r ≡ T.shapeIn (T.immediateRow k) ⌝ }
 {
     match k {
-        Immediate::Addi => shaped(Format::Constant, 8),
-        Immediate::Addiu => shaped(Format::Constant, 9),
-        Immediate::Slti => shaped(Format::Constant, 10),
-        Immediate::Sltiu => shaped(Format::Constant, 11),
-        Immediate::Andi => shaped(Format::Constant, 12),
-        Immediate::Ori => shaped(Format::Constant, 13),
-        Immediate::Xori => shaped(Format::Constant, 14),
-        Immediate::Lui => shaped(Format::UpperConstant, 15),
+        Immediate::Addi => shaped(Format::Constant, 0b001000),
+        Immediate::Addiu => shaped(Format::Constant, 0b001001),
+        Immediate::Slti => shaped(Format::Constant, 0b001010),
+        Immediate::Sltiu => shaped(Format::Constant, 0b001011),
+        Immediate::Andi => shaped(Format::Constant, 0b001100),
+        Immediate::Ori => shaped(Format::Constant, 0b001101),
+        Immediate::Xori => shaped(Format::Constant, 0b001110),
+        Immediate::Lui => shaped(Format::UpperConstant, 0b001111),
     }
 }
 
@@ -103,12 +103,12 @@ fn shift_shape(k: Shift) -> Shape
     ensures { λ r. ⌜ r ≡ T.shapeIn (T.shiftRow k) ⌝ }
 {
     match k {
-        Shift::Sll => shaped(Format::ShiftAmount, 0),
-        Shift::Srl => shaped(Format::ShiftAmount, 2),
-        Shift::Sra => shaped(Format::ShiftAmount, 3),
-        Shift::Sllv => shaped(Format::ThreeRegisters, 4),
-        Shift::Srlv => shaped(Format::ThreeRegisters, 6),
-        Shift::Srav => shaped(Format::ThreeRegisters, 7),
+        Shift::Sll => shaped(Format::ShiftAmount, 0b000000),
+        Shift::Srl => shaped(Format::ShiftAmount, 0b000010),
+        Shift::Sra => shaped(Format::ShiftAmount, 0b000011),
+        Shift::Sllv => shaped(Format::ThreeRegisters, 0b000100),
+        Shift::Srlv => shaped(Format::ThreeRegisters, 0b000110),
+        Shift::Srav => shaped(Format::ThreeRegisters, 0b000111),
     }
 }
 
@@ -116,14 +116,14 @@ fn multiply_shape(k: Multiply) -> Shape
     ensures { λ r. ⌜ r ≡ T.shapeIn (T.multiplyRow k) ⌝ }
 {
     match k {
-        Multiply::Mult => shaped(Format::TwoSources, 24),
-        Multiply::Multu => shaped(Format::TwoSources, 25),
-        Multiply::Div => shaped(Format::TwoSources, 26),
-        Multiply::Divu => shaped(Format::TwoSources, 27),
-        Multiply::Mfhi => shaped(Format::OneTarget, 16),
-        Multiply::Mthi => shaped(Format::OneSource, 17),
-        Multiply::Mflo => shaped(Format::OneTarget, 18),
-        Multiply::Mtlo => shaped(Format::OneSource, 19),
+        Multiply::Mult => shaped(Format::TwoSources, 0b011000),
+        Multiply::Multu => shaped(Format::TwoSources, 0b011001),
+        Multiply::Div => shaped(Format::TwoSources, 0b011010),
+        Multiply::Divu => shaped(Format::TwoSources, 0b011011),
+        Multiply::Mfhi => shaped(Format::OneTarget, 0b010000),
+        Multiply::Mthi => shaped(Format::OneSource, 0b010001),
+        Multiply::Mflo => shaped(Format::OneTarget, 0b010010),
+        Multiply::Mtlo => shaped(Format::OneSource, 0b010011),
     }
 }
 
@@ -131,16 +131,16 @@ fn access_shape(k: Access) -> Shape
     ensures { λ r. ⌜ r ≡ T.shapeIn (T.accessRow k) ⌝ }
 {
     match k {
-        Access::Lb => shaped(Format::Constant, 32),
-        Access::Lbu => shaped(Format::Constant, 36),
-        Access::Sb => shaped(Format::Constant, 40),
-        Access::Lh => shaped(Format::Constant, 33),
-        Access::Lhu => shaped(Format::Constant, 37),
-        Access::Sh => shaped(Format::Constant, 41),
-        Access::Lw => shaped(Format::Constant, 35),
-        Access::Sw => shaped(Format::Constant, 43),
-        Access::Ll => shaped(Format::Constant, 48),
-        Access::Sc => shaped(Format::Constant, 56),
+        Access::Lb => shaped(Format::Constant, 0b100000),
+        Access::Lbu => shaped(Format::Constant, 0b100100),
+        Access::Sb => shaped(Format::Constant, 0b101000),
+        Access::Lh => shaped(Format::Constant, 0b100001),
+        Access::Lhu => shaped(Format::Constant, 0b100101),
+        Access::Sh => shaped(Format::Constant, 0b101001),
+        Access::Lw => shaped(Format::Constant, 0b100011),
+        Access::Sw => shaped(Format::Constant, 0b101011),
+        Access::Ll => shaped(Format::Constant, 0b110000),
+        Access::Sc => shaped(Format::Constant, 0b111000),
     }
 }
 
@@ -148,18 +148,18 @@ fn branch_shape(k: Branch) -> Shape
     ensures { λ r. ⌜ r ≡ T.shapeIn (T.branchRow k) ⌝ }
 {
     match k {
-        Branch::J => shaped(Format::JumpIndex, 2),
-        Branch::Jal => shaped(Format::JumpIndex, 3),
-        Branch::Jr => shaped(Format::OneSource, 8),
-        Branch::Jalr => shaped(Format::SourceTarget, 9),
-        Branch::Beq => shaped(Format::Constant, 4),
-        Branch::Bne => shaped(Format::Constant, 5),
-        Branch::Blez => shaped(Format::BranchZero, 6),
-        Branch::Bgtz => shaped(Format::BranchZero, 7),
-        Branch::Bltz => shaped(Format::Condition, 0),
-        Branch::Bgez => shaped(Format::Condition, 1),
-        Branch::Bltzal => shaped(Format::Condition, 16),
-        Branch::Bgezal => shaped(Format::Condition, 17),
+        Branch::J => shaped(Format::JumpIndex, 0b000010),
+        Branch::Jal => shaped(Format::JumpIndex, 0b000011),
+        Branch::Jr => shaped(Format::OneSource, 0b001000),
+        Branch::Jalr => shaped(Format::SourceTarget, 0b001001),
+        Branch::Beq => shaped(Format::Constant, 0b000100),
+        Branch::Bne => shaped(Format::Constant, 0b000101),
+        Branch::Blez => shaped(Format::BranchZero, 0b000110),
+        Branch::Bgtz => shaped(Format::BranchZero, 0b000111),
+        Branch::Bltz => shaped(Format::Condition, 0b00000),
+        Branch::Bgez => shaped(Format::Condition, 0b00001),
+        Branch::Bltzal => shaped(Format::Condition, 0b10000),
+        Branch::Bgezal => shaped(Format::Condition, 0b10001),
     }
 }
 
@@ -167,18 +167,18 @@ fn trap_shape(k: Trap) -> Shape
     ensures { λ r. ⌜ r ≡ T.shapeIn (T.trapRow k) ⌝ }
 {
     match k {
-        Trap::Tge => shaped(Format::TrapCode, 48),
-        Trap::Tgeu => shaped(Format::TrapCode, 49),
-        Trap::Tlt => shaped(Format::TrapCode, 50),
-        Trap::Tltu => shaped(Format::TrapCode, 51),
-        Trap::Teq => shaped(Format::TrapCode, 52),
-        Trap::Tne => shaped(Format::TrapCode, 54),
-        Trap::Tgei => shaped(Format::Condition, 8),
-        Trap::Tgeiu => shaped(Format::Condition, 9),
-        Trap::Tlti => shaped(Format::Condition, 10),
-        Trap::Tltiu => shaped(Format::Condition, 11),
-        Trap::Teqi => shaped(Format::Condition, 12),
-        Trap::Tnei => shaped(Format::Condition, 14),
+        Trap::Tge => shaped(Format::TrapCode, 0b110000),
+        Trap::Tgeu => shaped(Format::TrapCode, 0b110001),
+        Trap::Tlt => shaped(Format::TrapCode, 0b110010),
+        Trap::Tltu => shaped(Format::TrapCode, 0b110011),
+        Trap::Teq => shaped(Format::TrapCode, 0b110100),
+        Trap::Tne => shaped(Format::TrapCode, 0b110110),
+        Trap::Tgei => shaped(Format::Condition, 0b01000),
+        Trap::Tgeiu => shaped(Format::Condition, 0b01001),
+        Trap::Tlti => shaped(Format::Condition, 0b01010),
+        Trap::Tltiu => shaped(Format::Condition, 0b01011),
+        Trap::Teqi => shaped(Format::Condition, 0b01100),
+        Trap::Tnei => shaped(Format::Condition, 0b01110),
     }
 }
 
@@ -186,12 +186,12 @@ fn system_shape(k: System) -> Shape
     ensures { λ r. ⌜ r ≡ T.shapeIn (T.systemRow k) ⌝ }
 {
     match k {
-        System::Syscall => shaped(Format::SystemCode, 12),
-        System::Break => shaped(Format::SystemCode, 13),
-        System::Rfe => shaped(Format::ExceptionReturn, 16),
-        System::Mfc0 => shaped(Format::ControlMove, 0),
-        System::Mtc0 => shaped(Format::ControlMove, 4),
-        System::Sync => shaped(Format::Barrier, 15),
+        System::Syscall => shaped(Format::SystemCode, 0b001100),
+        System::Break => shaped(Format::SystemCode, 0b001101),
+        System::Rfe => shaped(Format::ExceptionReturn, 0b10000),
+        System::Mfc0 => shaped(Format::ControlMove, 0b00000),
+        System::Mtc0 => shaped(Format::ControlMove, 0b00100),
+        System::Sync => shaped(Format::Barrier, 0b001111),
     }
 }
 

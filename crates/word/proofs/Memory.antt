@@ -1,7 +1,7 @@
 -- Laws of numbers in memory, over the width.
-use mathlib.Core.Path.{_≡_, refl, _∙_, ap, sym}
+use mathlib.Core.Path.{_≡_, refl, _∙_}
 use mathlib.Core.List.{List}
-use Prim.Native.Nat.{ℕ, zero, suc, _+_, _-_, _*_, _/_, _%_, _^_, _<_, _≤_}
+use Prim.Native.Nat.{ℕ, zero, suc, _+_, _*_, _/_, _%_, _^_, _<_, _≤_}
 use native.Mathlib.Nat.{pow-suc}
 use native.Mathlib.Omega.{arith}
 use lib.ListN.{length, getD, set, length-set}
@@ -45,20 +45,13 @@ load-same zero m₁ m₂ a h = refl
 load-same (suc n) m₁ m₂ a h =
     rw (h a (omega arith) (omega arith), load-same n m₁ m₂ (a + 1) (λ i l u. h i (omega arith) (omega arith)))
 
--- ---- a word's four bytes
+-- ---- a number by its halves
 
-pub load-four : (m : List ℕ) (a : ℕ)
-    → loadOf 4 m a ≡ getD m a 0 + 256 * getD m (a + 1) 0 + 65536 * getD m (a + 2) 0 + 16777216 * getD m (a + 3) 0
-load-four m a =
-    let e₂ : a + 1 + 1 ≡ a + 2 = omega arith in
-    let e₃ : a + 2 + 1 ≡ a + 3 = omega arith in
-    rw (e₂, e₃) (omega arith)
+pub load-halves : (m : List ℕ) (a : ℕ) → loadOf 4 m a ≡ loadOf 2 m a + 65536 * loadOf 2 m (a + 2)
+load-halves m a = let e : a + 1 + 1 ≡ a + 2 = omega arith in rw (e) (omega arith)
 
-pub store-four : (m : List ℕ) (a v : ℕ)
-    → storeOf 4 m a v ≡ set (set (set (set m a (v % 256)) (a + 1) (v / 256 % 256)) (a + 2) (v / 65536 % 256)) (a + 3) (v / 16777216 % 256)
-store-four m a v =
-    let e₂ : a + 1 + 1 ≡ a + 2 = omega arith in
-    let e₃ : a + 2 + 1 ≡ a + 3 = omega arith in
-    let d₂ : v / 256 / 256 ≡ v / 65536 = shr-shr v 8 8 in
-    let d₃ : v / 65536 / 256 ≡ v / 16777216 = shr-shr v 16 8 in
-    rw (e₂, e₃, d₂, d₃)
+pub store-halves : (m : List ℕ) (a v : ℕ) → storeOf 4 m a v ≡ storeOf 2 (storeOf 2 m a v) (a + 2) (v / 65536)
+store-halves m a v =
+    let e : a + 1 + 1 ≡ a + 2 = omega arith in
+    let d : v / 256 / 256 ≡ v / 65536 = shr-shr v 8 8 in
+    rw (e, d)

@@ -1,4 +1,4 @@
-use mathlib.Core.Path.{ap, refl, _∙_}
+use mathlib.Core.Path.{ap, _∙_}
 use borrow.Author.Needs.{needs}
 use Rattle.word.specs.declared.field.Fields.{Fields}
 use Rattle.isa.specs.Reading.{readAs}

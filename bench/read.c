@@ -1,0 +1,93 @@
+/* Words read per second by cc100_read and by the same in plain C: medians of interleaved passes over the same words. */
+#include <stdint.h>
+#include <stdio.h>
+#include <stdlib.h>
+#include <time.h>
+
+#include "plain.h"
+
+#define WORDS 65536
+#define PASSES 8
+#define ROUNDS 41
+
+typedef struct cc100_instruction reader(uint32_t);
+
+static uint32_t words[WORDS];
+static uint32_t seed = 1;
+
+static uint32_t next_random(void)
+{
+    seed ^= seed << 13;
+    seed ^= seed >> 17;
+    seed ^= seed << 5;
+    return seed;
+}
+
+/* A loop such as a compiler writes: constants, guarded accesses, arithmetic, branches. */
+static const uint32_t loop[] = {
+    0x3108003C, 0x011A4025, 0xAD090000, 0x0000000C, 0x00000000, 0x08004000, 0x24420001,
+    0x8C430004, 0x00431021, 0x14620003, 0x00021080, 0x00430018, 0x00001012, 0x03E00008,
+};
+#define LOOP (sizeof loop / sizeof loop[0])
+
+static double now(void)
+{
+    struct timespec t;
+    clock_gettime(CLOCK_MONOTONIC, &t);
+    return (double)t.tv_sec + (double)t.tv_nsec * 1e-9;
+}
+
+static uint64_t pass(reader *read)
+{
+    uint64_t sum = 0;
+    for (int i = 0; i < WORDS; i++) {
+        struct cc100_instruction x = read(words[i]);
+        sum += x.kind + 3ull * x.rs + 5ull * x.rt + 7ull * x.rd + 11ull * x.shift + 13ull * x.value;
+    }
+    return sum;
+}
+
+static double timed(reader *read, uint64_t *sum)
+{
+    double from = now();
+    for (int i = 0; i < PASSES; i++)
+        *sum += pass(read);
+    return now() - from;
+}
+
+static int ascending(const void *a, const void *b)
+{
+    double x = *(const double *)a, y = *(const double *)b;
+    return (x > y) - (x < y);
+}
+
+static int compare(const char *name)
+{
+    double product[ROUNDS], plain[ROUNDS];
+    uint64_t sum_product = 0, sum_plain = 0;
+    for (int r = 0; r < ROUNDS; r++) {
+        product[r] = timed(cc100_read, &sum_product);
+        plain[r] = timed(plain_read, &sum_plain);
+    }
+    qsort(product, ROUNDS, sizeof(double), ascending);
+    qsort(plain, ROUNDS, sizeof(double), ascending);
+    double a = product[ROUNDS / 2], b = plain[ROUNDS / 2];
+    printf("%-28s product %6.1f, plain C %6.1f million words/s, time ratio %.2f%s\n", name, PASSES * WORDS / a / 1e6, PASSES * WORDS / b / 1e6,
+           a / b, sum_product == sum_plain ? "" : "  DIFFERENT ANSWERS");
+    return sum_product != sum_plain;
+}
+
+int main(void)
+{
+    int wrong = 0;
+    for (int i = 0; i < WORDS; i++)
+        words[i] = loop[(size_t)i % LOOP];
+    wrong |= compare("read, a loop's words");
+    for (int i = 0; i < WORDS; i++)
+        words[i] = loop[next_random() % LOOP];
+    wrong |= compare("read, the same in any order");
+    for (int i = 0; i < WORDS; i++)
+        words[i] = next_random();
+    wrong |= compare("read, random words");
+    return wrong;
+}
