@@ -14,7 +14,7 @@ use Rattle.isa.specs.declared.reader.Reading.the-variants.{NoInstruction
 use Rattle.isa.specs.Table.{rowOf, instructions}
 use Rattle.isa.specs.Reading.{readAs, readFields}
 use Rattle.isa.proofs.Codes.{tableOf, keyOf, keyIn, nothing, lookup, every, both}
-use Rattle.isa.proofs.ByKey.{in-special, in-regimm, in-cop0, in-opcode, read-found, read-nothing}
+use Rattle.isa.proofs.ByKey.{in-special, in-regimm, in-cop0, in-opcode, direct, at-opcode, read-found, read-nothing}
 
 -- ---- an arm's kind
 
@@ -28,13 +28,8 @@ module _ (k : Kind) (f : Fields) (n : ℕ) {r : Reading} (e : r ≡ readAs k f) 
   pub cop0-arm : f .op ≡ 16 → f .rs ≡ n → keyOf k ≡ 192 + n → r ≡ readFields f
   cop0-arm p q h = e ∙ sym (read-found f k (in-cop0 f p ∙ ap (λ (x : ℕ). 192 + x) q ∙ sym h))
 
-  pub opcode-arm : f .op ≡ n → T (not (eqb n 0) && (not (eqb n 1) && not (eqb n 16))) → keyOf k ≡ n → r ≡ readFields f
-  opcode-arm q t h =
-      let a = both (not (eqb n 0)) _ t in
-      let b = both (not (eqb n 1)) _ (a .1) in
-      let away : (m : ℕ) → T (not (eqb n m)) → f .op ≡ m → ⊥ =
-      λ m g p. T-not (eqb n m) g (subst T (sym (eq-eqb n m (sym q ∙ p))) tt) in
-      e ∙ sym (read-found f k (in-opcode f (away 0 (a .0)) (away 1 (b .0)) (away 16 (b .1)) ∙ q ∙ sym h))
+  pub opcode-arm : f .op ≡ n → T (direct n) → keyOf k ≡ n → r ≡ readFields f
+  opcode-arm q t h = e ∙ sym (read-found f k (at-opcode f n t q ∙ sym h))
 
 -- ---- a code that no arm has
 

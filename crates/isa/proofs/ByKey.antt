@@ -42,22 +42,35 @@ module _ (f : Fields) where
 
 -- ---- fields that fit a kind lead to it
 
--- a code in the table by opcode is none of those that lead to another table
+-- an opcode that leads to no other table
+abbrev pub direct : ℕ → Bool
+direct n = not (eqb n 0) && (not (eqb n 1) && not (eqb n 16))
+
+pub at-opcode : (f : Fields) (n : ℕ) → T (direct n) → f .op ≡ n → keyIn f ≡ n
+at-opcode f n t e = in-opcode f (away 0 (a .0)) (away 1 (b .0)) (away 16 (b .1)) ∙ e
+  where
+    a : T (not (eqb n 0)) × T (not (eqb n 1) && not (eqb n 16))
+    a = both (not (eqb n 0)) _ t
+
+    b : T (not (eqb n 1)) × T (not (eqb n 16))
+    b = both (not (eqb n 1)) _ (a .1)
+
+    away : (m : ℕ) → T (not (eqb n m)) → f .op ≡ m → ⊥
+    away m h q = T-not (eqb n m) h (subst T (sym (eq-eqb n m (sym e ∙ q))) tt)
+
+-- a code in the table by opcode is such an opcode
 abbrev free : Format → ℕ → Bool
-free t n = cond (eqb (tableOf t) 0) (not (eqb n 0) && (not (eqb n 1) && not (eqb n 16))) true
+free t n = cond (eqb (tableOf t) 0) (direct n) true
 
 module _ (n : ℕ) (f : Fields) where
   special-key : T (eqb (f .op) 0) → T (eqb (f .funct) n) → keyIn f ≡ 64 + n
   special-key p q = in-special f (eqb→eq (f .op) 0 p) ∙ ap (λ (x : ℕ). 64 + x) (eqb→eq (f .funct) n q)
 
-  opcode-key : T (not (eqb n 0) && (not (eqb n 1) && not (eqb n 16))) → T (eqb (f .op) n) → keyIn f ≡ 0 + n
-  opcode-key t p =
-      let e : f .op ≡ n = eqb→eq (f .op) n p in
-      let a = both (not (eqb n 0)) _ t in
-      let b = both (not (eqb n 1)) _ (a .1) in
-      let away : (m : ℕ) → T (not (eqb n m)) → f .op ≡ m → ⊥ =
-      λ m h q. T-not (eqb n m) h (subst T (sym (eq-eqb n m (sym e ∙ q))) tt) in
-      in-opcode f (away 0 (a .0)) (away 1 (b .0)) (away 16 (b .1)) ∙ e ∙ omega arith
+  opcode-key : T (direct n) → T (eqb (f .op) n) → keyIn f ≡ 0 + n
+  opcode-key t p = at-opcode f n t (eqb→eq (f .op) n p) ∙ omega arith
+
+  cop0-key : T (eqb (f .op) 16) → T (eqb (f .rs) n) → keyIn f ≡ 192 + n
+  cop0-key p q = in-cop0 f (eqb→eq (f .op) 16 p) ∙ ap (λ (x : ℕ). 192 + x) (eqb→eq (f .rs) n q)
 
   format-key : (t : Format) → T (free t n) → Matched (drawingOf t) n f → keyIn f ≡ tableOf t * 64 + n
   format-key ThreeRegisters h m = special-key (m .op) (m .funct)
@@ -74,8 +87,8 @@ module _ (n : ℕ) (f : Fields) where
   format-key Constant h m = opcode-key h (m .op)
   format-key BranchZero h m = opcode-key h (m .op)
   format-key UpperConstant h m = opcode-key h (m .op)
-  format-key ControlMove h m = in-cop0 f (eqb→eq (f .op) 16 (m .op)) ∙ ap (λ (x : ℕ). 192 + x) (eqb→eq (f .rs) n (m .rs))
-  format-key ExceptionReturn h m = in-cop0 f (eqb→eq (f .op) 16 (m .op)) ∙ ap (λ (x : ℕ). 192 + x) (eqb→eq (f .rs) n (m .rs))
+  format-key ControlMove h m = cop0-key (m .op) (m .rs)
+  format-key ExceptionReturn h m = cop0-key (m .op) (m .rs)
 
 pub fits-key : (k : Kind) (f : Fields) → T (fitsKind k f) → keyIn f ≡ keyOf k
 fits-key k f t =

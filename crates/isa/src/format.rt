@@ -223,137 +223,44 @@ fn drawn(op: Role, rs: Role, rt: Role, rd: Role, shift: Role, funct: Role) -> Dr
     }
 }
 
+// The roles by the names of the drawings: the opcodes SPECIAL, REGIMM and COP0, a field drawn as zero, and the function field of RFE.
+const SPECIAL: Role = Role::Fixed(0b000000);
+
+const REGIMM: Role = Role::Fixed(0b000001);
+
+const COP0: Role = Role::Fixed(0b010000);
+
+const BLANK: Role = Role::Fixed(0);
+
+const RETURN: Role = Role::Fixed(0b010000);
+
+const OPERAND: Role = Role::Operand;
+
+const CONTROL: Role = Role::Control;
+
+const CODE: Role = Role::Code;
+
+const PART: Role = Role::Part;
+
 pub fn drawing_of(format: Format) -> Drawing
     ensures { λ r. ⌜ r ≡ D.drawingOf format ⌝ }
 {
     match format {
-        Format::ThreeRegisters => drawn(
-            Role::Fixed(0),
-            Role::Operand,
-            Role::Operand,
-            Role::Operand,
-            Role::Fixed(0),
-            Role::Code,
-        ),
-        Format::ShiftAmount => drawn(
-            Role::Fixed(0),
-            Role::Fixed(0),
-            Role::Operand,
-            Role::Operand,
-            Role::Operand,
-            Role::Code,
-        ),
-        Format::TwoSources => drawn(
-            Role::Fixed(0),
-            Role::Operand,
-            Role::Operand,
-            Role::Fixed(0),
-            Role::Fixed(0),
-            Role::Code,
-        ),
-        Format::OneSource => drawn(
-            Role::Fixed(0),
-            Role::Operand,
-            Role::Fixed(0),
-            Role::Fixed(0),
-            Role::Fixed(0),
-            Role::Code,
-        ),
-        Format::OneTarget => drawn(
-            Role::Fixed(0),
-            Role::Fixed(0),
-            Role::Fixed(0),
-            Role::Operand,
-            Role::Fixed(0),
-            Role::Code,
-        ),
-        Format::SourceTarget => drawn(
-            Role::Fixed(0),
-            Role::Operand,
-            Role::Fixed(0),
-            Role::Operand,
-            Role::Fixed(0),
-            Role::Code,
-        ),
-        Format::SystemCode => drawn(
-            Role::Fixed(0),
-            Role::Part,
-            Role::Part,
-            Role::Part,
-            Role::Part,
-            Role::Code,
-        ),
-        Format::Barrier => drawn(
-            Role::Fixed(0),
-            Role::Fixed(0),
-            Role::Fixed(0),
-            Role::Fixed(0),
-            Role::Part,
-            Role::Code,
-        ),
-        Format::TrapCode => drawn(
-            Role::Fixed(0),
-            Role::Operand,
-            Role::Operand,
-            Role::Part,
-            Role::Part,
-            Role::Code,
-        ),
-        Format::Condition => drawn(
-            Role::Fixed(1),
-            Role::Operand,
-            Role::Code,
-            Role::Part,
-            Role::Part,
-            Role::Part,
-        ),
-        Format::JumpIndex => drawn(
-            Role::Code,
-            Role::Part,
-            Role::Part,
-            Role::Part,
-            Role::Part,
-            Role::Part,
-        ),
-        Format::Constant => drawn(
-            Role::Code,
-            Role::Operand,
-            Role::Operand,
-            Role::Part,
-            Role::Part,
-            Role::Part,
-        ),
-        Format::BranchZero => drawn(
-            Role::Code,
-            Role::Operand,
-            Role::Fixed(0),
-            Role::Part,
-            Role::Part,
-            Role::Part,
-        ),
-        Format::UpperConstant => drawn(
-            Role::Code,
-            Role::Fixed(0),
-            Role::Operand,
-            Role::Part,
-            Role::Part,
-            Role::Part,
-        ),
-        Format::ControlMove => drawn(
-            Role::Fixed(16),
-            Role::Code,
-            Role::Operand,
-            Role::Control,
-            Role::Fixed(0),
-            Role::Fixed(0),
-        ),
-        Format::ExceptionReturn => drawn(
-            Role::Fixed(16),
-            Role::Code,
-            Role::Fixed(0),
-            Role::Fixed(0),
-            Role::Fixed(0),
-            Role::Fixed(16),
-        ),
+        Format::ThreeRegisters => drawn(SPECIAL, OPERAND, OPERAND, OPERAND, BLANK, CODE),
+        Format::ShiftAmount => drawn(SPECIAL, BLANK, OPERAND, OPERAND, OPERAND, CODE),
+        Format::TwoSources => drawn(SPECIAL, OPERAND, OPERAND, BLANK, BLANK, CODE),
+        Format::OneSource => drawn(SPECIAL, OPERAND, BLANK, BLANK, BLANK, CODE),
+        Format::OneTarget => drawn(SPECIAL, BLANK, BLANK, OPERAND, BLANK, CODE),
+        Format::SourceTarget => drawn(SPECIAL, OPERAND, BLANK, OPERAND, BLANK, CODE),
+        Format::SystemCode => drawn(SPECIAL, PART, PART, PART, PART, CODE),
+        Format::Barrier => drawn(SPECIAL, BLANK, BLANK, BLANK, PART, CODE),
+        Format::TrapCode => drawn(SPECIAL, OPERAND, OPERAND, PART, PART, CODE),
+        Format::Condition => drawn(REGIMM, OPERAND, CODE, PART, PART, PART),
+        Format::JumpIndex => drawn(CODE, PART, PART, PART, PART, PART),
+        Format::Constant => drawn(CODE, OPERAND, OPERAND, PART, PART, PART),
+        Format::BranchZero => drawn(CODE, OPERAND, BLANK, PART, PART, PART),
+        Format::UpperConstant => drawn(CODE, BLANK, OPERAND, PART, PART, PART),
+        Format::ControlMove => drawn(COP0, CODE, OPERAND, CONTROL, BLANK, BLANK),
+        Format::ExceptionReturn => drawn(COP0, CODE, BLANK, BLANK, BLANK, RETURN),
     }
 }
