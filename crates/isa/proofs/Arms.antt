@@ -4,7 +4,7 @@ use mathlib.Core.Bool.{Bool, true, false, not, _&&_, _||_}
 use mathlib.Core.List.{List, [], _∷_}
 use Prim.Native.Nat.{ℕ, _+_, _*_, _<_}
 use native.Mathlib.Omega.{arith}
-use lib.Dec.{T, eqb, ltb, eqb→eq, ltb→lt, T-not}
+use lib.Dec.{T, eqb, ltb, eqb→eq, ltb→lt}
 use borrow.Author.Tests.{eq-eqb, ne-eqb}
 use Rattle.word.specs.declared.field.Fields.{Fields}
 use Rattle.word.specs.Field.{Fit}
