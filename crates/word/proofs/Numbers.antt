@@ -1,4 +1,4 @@
--- What sign extension and the wrapping difference come to in unsigned arithmetic, over the width.
+-- What sign extension comes to in unsigned arithmetic, over the width.
 use mathlib.Core.Path.{_≡_, sym}
 use Prim.Native.Nat.{ℕ, suc, _+_, _-_, _%_, _^_, _<_, _≤_}
 use native.Mathlib.Nat.{mod-eq-of-lt}
@@ -7,7 +7,7 @@ use borrow.Author.Tests.{lt-ltb, le-ltb}
 use lib.IntN.{pos, negsuc}
 use lib.Bits.{bitAnd, mask-lt}
 use lib.Pow.{pow-mono}
-use Rattle.word.specs.Number.{signedOf, extendOf, differenceOf}
+use Rattle.word.specs.Number.{signedOf, extendOf}
 use Rattle.word.proofs.Bits.{mask-mod}
 
 pub signed-low : (k x : ℕ) → x < 2 ^ (k - 1) → signedOf k x ≡ pos x
@@ -36,10 +36,3 @@ module _ (k x : ℕ) (width : k ≤ 32) where
       let l : bitAnd x (2 ^ k - 1) < 2 ^ k = mask-lt x k in
       let e : (2 ^ k - suc (bitAnd x (2 ^ k - 1))) % 2 ^ 32 ≡ 2 ^ k - suc (bitAnd x (2 ^ k - 1)) = mod-eq-of-lt (omega arith) in
       rw (← mask-mod k x, signed-high k (bitAnd x (2 ^ k - 1)) h l, e) (omega arith)
-
-  pub extend-fits : bitAnd x (2 ^ k - 1) + (2 ^ 32 - 2 ^ k) < 2 ^ 32
-  extend-fits = let m : 2 ^ k ≤ 2 ^ 32 = pow-mono width in omega (arith, mask-lt x k)
-
--- the one number below 2^32 that gives a when b is added
-pub difference-of : (a b r : ℕ) → r < 2 ^ 32 → b < 2 ^ 32 → (r + b) % 2 ^ 32 ≡ a → r ≡ differenceOf a b
-difference-of a b r hr hb e = omega arith

@@ -1,10 +1,11 @@
 use native.Mathlib.Omega.{arith}
-use Rattle.word.proofs.Numbers.{extend-clear, extend-set, extend-fits}
+use lib.Bits.{mask-lt}
+use Rattle.word.proofs.Numbers.{extend-clear, extend-set}
 use Rattle.word.proofs.number.extend16.Statement.{statement}
 use Rattle.word.proofs.number.extend16.Tie as tie
 
 add-result : tie.Need-add-result
-add-result c = record { fits = extend-fits 16 (c .before .args .x) (omega arith) }
+add-result c = omega (arith, mask-lt (c .before .args .x) 16)
 
 returns : tie.Need-returns
 returns c = extend-clear 16 (c .before .args .x) (omega arith) (c .if1 .taken)
