@@ -4,7 +4,7 @@ use Rattle.isa.specs.declared.reader.Reading.{Reading}
 use Rattle.isa.specs.declared.reader.Reading.the-variants.{Legal, NoInstruction}
 use Rattle.isa.specs.declared.writer.Written.{Written}
 use Rattle.isa.specs.Reading.{made}
-use Rattle.isa.specs.Writing as W
+use Rattle.isa.specs.Writing.{writeOf, writtenNumber, writtenWord}
 use Rattle.cc100.specs.declared.number.Numbered.{Numbered}
 use Rattle.cc100.specs.declared.number.Numbered.the-variants.{Known, Unknown}
 use Rattle.cc100.specs.declared.instruction.ReadAnswer.{ReadAnswer}
@@ -24,9 +24,9 @@ writeNumbers n w = record { number = n; word = w }
 
 -- 0 with the word, or 18 with 0
 abbrev pub writeAnswer : Written → WriteAnswer
-writeAnswer w = writeNumbers (W.numberOf w) (W.wordOf w)
+writeAnswer w = writeNumbers (writtenNumber w) (writtenWord w)
 
 -- a number that is no instruction's is refused like a field that is not legal
 abbrev pub writeNumbered : Numbered → ℕ → ℕ → ℕ → ℕ → ℕ → WriteAnswer
-writeNumbered (Known k) s t d h v = writeAnswer (W.writeOf (made k s t d h v))
+writeNumbered (Known k) s t d h v = writeAnswer (writeOf (made k s t d h v))
 writeNumbered Unknown s t d h v = writeNumbers 18 0

@@ -79,10 +79,10 @@ writeOf i =
     cond (legal (drawingFor (i .kind)) i) (Word (joinOf (encodeOf (drawingFor (i .kind)) (rowOf (i .kind) .code) i))) Refused
 
 -- document 01's number for each case, and the word beside it: 0 with the word, or 18 with 0
-abbrev pub numberOf : Written → ℕ
-numberOf (Word w) = 0
-numberOf Refused = 18
+abbrev pub writtenNumber : Written → ℕ
+writtenNumber (Word w) = 0
+writtenNumber Refused = 18
 
-abbrev pub wordOf : Written → ℕ
-wordOf (Word w) = w
-wordOf Refused = 0
+abbrev pub writtenWord : Written → ℕ
+writtenWord (Word w) = w
+writtenWord Refused = 0
