@@ -2,8 +2,22 @@
 #ifndef PLAIN_H
 #define PLAIN_H
 
+#include <stddef.h>
+
 #include "cc100.h"
 
 struct cc100_instruction plain_read(uint32_t word);
+
+/* The 41 words of a state, in document 01's order. */
+struct plain_state {
+    uint32_t r[32], hi, lo, pc, next_pc, ll, bad, status, cause, epc;
+};
+
+/* One step. Gives 0, an exit (40 to 52) or a refusal (1 or 17); where it is not 0, state and memory stay as they were. */
+uint32_t plain_step(struct plain_state *s, uint8_t *memory, size_t length);
+
+/* Steps until the budget is spent, which gives 0, or until an exit, which gives its number. The steps completed go to *steps.
+   A refusal (1 or 17) completes none. */
+uint32_t plain_run(struct plain_state *s, uint8_t *memory, size_t length, uint32_t budget, uint32_t *steps);
 
 #endif

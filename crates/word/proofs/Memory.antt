@@ -1,6 +1,6 @@
 -- Laws of numbers in memory, over the width.
 use mathlib.Core.Path.{_≡_, refl, _∙_}
-use mathlib.Core.List.{List}
+use mathlib.Core.List.{List, [], _∷_}
 use Prim.Native.Nat.{ℕ, zero, suc, _+_, _*_, _/_, _%_, _^_, _<_, _≤_}
 use native.Mathlib.Nat.{pow-suc}
 use native.Mathlib.Omega.{arith}
@@ -44,6 +44,28 @@ pub load-same : (n : ℕ) (m₁ m₂ : List ℕ) (a : ℕ) → ((i : ℕ) → a 
 load-same zero m₁ m₂ a h = refl
 load-same (suc n) m₁ m₂ a h =
     rw (h a (omega arith) (omega arith), load-same n m₁ m₂ (a + 1) (λ i l u. h i (omega arith) (omega arith)))
+
+-- ---- bytes stay bytes
+
+pub load-lt : (n : ℕ) (m : List ℕ) (a : ℕ) → ((i : ℕ) → getD m i 0 < 2 ^ 8) → loadOf n m a < 256 ^ n
+load-lt zero m a b = omega arith
+load-lt (suc n) m a b =
+    let rest : loadOf n m (a + 1) < 256 ^ n = load-lt n m (a + 1) b in
+    let first : getD m a 0 < 2 ^ 8 = b a in
+    rw (pow-suc 256 n) (omega arith)
+
+-- what holds of every element and of the new one holds after it is set
+pub set-every : (P : ℕ → Type 0) (l : List ℕ) (a v : ℕ) → P v → ((i : ℕ) → P (getD l i 0)) → (i : ℕ) → P (getD (set l a v) i 0)
+set-every P [] a v h b i = b i
+set-every P (x ∷ xs) zero v h b zero = h
+set-every P (x ∷ xs) zero v h b (suc i) = b (suc i)
+set-every P (x ∷ xs) (suc a) v h b zero = b zero
+set-every P (x ∷ xs) (suc a) v h b (suc i) = set-every P xs a v h (λ j. b (suc j)) i
+
+pub store-bytes : (n : ℕ) (m : List ℕ) (a v : ℕ) → ((i : ℕ) → getD m i 0 < 2 ^ 8) → (i : ℕ) → getD (storeOf n m a v) i 0 < 2 ^ 8
+store-bytes zero m a v b i = b i
+store-bytes (suc n) m a v b i =
+    store-bytes n (set m a (v % 256)) (a + 1) (v / 256) (set-every (λ x. x < 2 ^ 8) m a (v % 256) (omega arith) b) i
 
 -- ---- a number by its halves
 

@@ -1,12 +1,17 @@
 -- Words as signed integers, sign_extend of document 004, and unsigned sums that wrap at 2^32 (document 01, Machine).
 use Prim.Native.Nat.{ℕ, suc, _+_, _-_, _%_, _^_}
-use mathlib.Core.Bool.{cond}
+use mathlib.Core.Bool.{Bool, cond, _&&_}
 use lib.Dec.{ltb}
-use lib.IntN.{ℤ, pos, negsuc, subℕ}
+use lib.IntN.{ℤ, pos, negsuc, negℤ, subℕ}
+use lib.Signed.{leZ, ltZ}
 
 -- the signed integer that k bits stand for: x, or x - 2^k where the top bit is set
 unfoldable pub signedOf : ℕ → ℕ → ℤ
 signedOf k x = cond (ltb x (2 ^ (k - 1))) (pos x) (subℕ x (2 ^ k))
+
+-- z is the signed integer of some k bits: -2^(k-1) ≤ z < 2^(k-1)
+abbrev pub fitsOf : ℕ → ℤ → Bool
+fitsOf k z = leZ (negℤ (pos (2 ^ (k - 1)))) z && ltZ z (pos (2 ^ (k - 1)))
 
 -- the number of k bits that differs from z by a multiple of 2^k
 abbrev pub wrapOf : ℕ → ℤ → ℕ

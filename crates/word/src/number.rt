@@ -18,6 +18,14 @@ pub fn extend16(x: u32) -> u32
     if low < 0x8000 { low } else { low + 0xFFFF0000 }
 }
 
+// sign_extend of the low 18 bits.
+pub fn extend18(x: u32) -> u32
+    ensures { λ r. ⌜ r ≡ extendOf 18 x ⌝ }
+{
+    let low = x & 0x3FFFF;
+    if low < 0x20000 { low } else { low + 0xFFFC0000 }
+}
+
 pub fn sum(a: u32, b: u32) -> u32
     ensures { λ r. ⌜ r ≡ sumOf a b ⌝ }
 {

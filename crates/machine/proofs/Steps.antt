@@ -1,0 +1,277 @@
+-- The theorems about a step: what it leaves where it exits or is refused, and what it keeps.
+use Prim.Native.Nat.{ℕ, _+_, _^_, _≤_, _<_}
+use mathlib.Core.Path.{_≡_, refl, sym, ap, _∙_}
+use mathlib.Core.Bool.{Bool, true, false, cond, true≢false}
+use mathlib.Core.List.{List}
+use mathlib.Core.Logic.{⊎-elim, _⊎_, inl, inr}
+use native.Mathlib.Omega.{arith}
+use lib.Dec.{eqb, leb, ltb}
+use lib.ListN.{length, getD}
+use borrow.Author.Tests.{eqb-true, eqb-false, ne-eqb, lt-ltb, le-ltb, le-leb, lt-leb}
+use Rattle.word.specs.Bytes.{loadOf, storeOf}
+use Rattle.word.proofs.Memory.{store-length, store-below, store-above, store-bytes, load-lt}
+use Rattle.isa.specs.declared.kind.Instruction.{Instruction}
+use Rattle.isa.specs.declared.reader.Reading.{Reading}
+use Rattle.isa.specs.declared.reader.Reading.the-variants.{Legal, NoInstruction}
+use Rattle.isa.specs.Reading.{readOf}
+use Rattle.isa.proofs.RoundTrip.{Operands, read-operands}
+use Rattle.effect.specs.declared.effect.Special.{Special}
+use Rattle.effect.specs.declared.effect.Effect.{Effect}
+use Rattle.effect.specs.declared.effect.Effect.the-variants.{Exit, Advance, Write, Pair, Jump, Link, LoadByte, LoadHalf, LoadWord, LoadLinked, StoreByte, StoreHalf, StoreWord, StoreLinked, Control, Return}
+use Rattle.effect.specs.Exit.{noInstruction, fetchOutside}
+use Rattle.effect.specs.Effect.{decisionOf}
+use Rattle.effect.specs.Sound.{Sound, Reach}
+use Rattle.effect.proofs.Sound.{exits, decision-sound}
+use Rattle.machine.specs.declared.state.State.{State}
+use Rattle.machine.specs.State.{registerOf, specialOf, joinOf, isLawful, refusalOf, longest, Typed, Bytes}
+use Rattle.machine.specs.Apply.{Machine, machine, Span, span, appliedOf, applyOf, storedOf, Outside}
+use Rattle.machine.specs.Step.{effectOf, readEffect, effectAt, readAccess, accessAt, exitOf, Outcome, outcome, tryOf, stepOf}
+use Rattle.machine.proofs.Valid.{Valid, valid, lawful, typed, put-zero, apply-valid}
+
+-- ---- the effect of a step is sound
+
+pub read-sound : (s : State) → Valid s → (n : ℕ) (r : Reading) → ((i : Instruction) → r ≡ Legal i → Operands i) → Sound (readEffect r s n) n (readAccess r s .at) (readAccess r s .width)
+unfolding effectOf
+read-sound s v n NoInstruction o = exits 49 refl refl
+read-sound s v n (Legal i) o =
+    decision-sound i (o i refl) (v .registers .words (i .rs)) (v .registers .words (i .rt)) (v .special) n
+
+module _ (s : State) (m : List ℕ) (v : Valid s) (b : Bytes m) where
+  fetched : (t : Bool) (r : Reading) → ((i : Instruction) → r ≡ Legal i → Operands i) → Sound (cond t (readEffect r s (length m)) (Exit fetchOutside)) (length m) (cond t (readAccess r s) (span 0 0) .at) (cond t (readAccess r s) (span 0 0) .width)
+  fetched true r o = read-sound s v (length m) r o
+  fetched false r o = exits 50 refl refl
+
+  pub effect-sound : Sound (effectAt s m) (length m) (accessAt s m .at) (accessAt s m .width)
+  unfolding effectAt accessAt
+  effect-sound =
+      fetched (leb (s .pc + 4) (length m)) (readOf (loadOf 4 m (s .pc))) (read-operands (loadOf 4 m (s .pc)) (load-lt 4 m (s .pc) b))
+
+-- ---- the effect, by what the code finds at each turn
+
+module _ (s : State) (m : List ℕ) where
+  pub fetch-outside : length m < s .pc + 4 → Exit fetchOutside ≡ effectAt s m
+  unfolding effectAt
+  fetch-outside h = rw (lt-leb (s .pc + 4) (length m) h)
+
+  module _ (h : s .pc + 4 ≤ length m) (w : ℕ) (r : Reading) (loaded : w ≡ loadOf 4 m (s .pc)) (given : r ≡ readOf w) where
+    fetch-read : readEffect r s (length m) ≡ effectAt s m
+    unfolding effectAt
+    fetch-read = rw (le-leb (s .pc + 4) (length m) h, given, loaded)
+
+    pub fetch-nothing : r ≡ NoInstruction → Exit noInstruction ≡ effectAt s m
+    fetch-nothing e = rw (← fetch-read, e)
+
+    pub fetch-decided : (i : Instruction) → r ≡ Legal i → decisionOf i (registerOf (s .registers) (i .rs)) (registerOf (s .registers) (i .rt)) (specialOf s) (length m) ≡ effectAt s m
+    unfolding effectOf
+    fetch-decided i e = rw (← fetch-read, e)
+
+pub fetch-operands : (m : List ℕ) (a w : ℕ) (r : Reading) (i : Instruction) → Bytes m → w ≡ loadOf 4 m a → r ≡ readOf w → r ≡ Legal i → Operands i
+fetch-operands m a w r i b l g e = read-operands w (rw l (load-lt 4 m a b)) i (sym g ∙ e)
+
+-- ---- an exit and a refusal leave everything
+
+apply-exit : (e : Effect) (s : State) (m : List ℕ) → (exitOf e ≡ 0 → ⊥) → applyOf e s m ≡ record { state = s; memory = m }
+apply-exit (Exit e) s m n = refl
+apply-exit Advance s m n = absurd (n refl)
+apply-exit (Write r v) s m n = absurd (n refl)
+apply-exit (Pair h l) s m n = absurd (n refl)
+apply-exit (Jump t) s m n = absurd (n refl)
+apply-exit (Link r v t) s m n = absurd (n refl)
+apply-exit (LoadByte r a x) s m n = absurd (n refl)
+apply-exit (LoadHalf r a x) s m n = absurd (n refl)
+apply-exit (LoadWord r a) s m n = absurd (n refl)
+apply-exit (LoadLinked r a) s m n = absurd (n refl)
+apply-exit (StoreByte a v) s m n = absurd (n refl)
+apply-exit (StoreHalf a v) s m n = absurd (n refl)
+apply-exit (StoreWord a v) s m n = absurd (n refl)
+apply-exit (StoreLinked r a v) s m n = absurd (n refl)
+apply-exit (Control r v) s m n = absurd (n refl)
+apply-exit (Return x) s m n = absurd (n refl)
+
+-- what holds of the step tried and of the answer unchanged holds of the step
+module _ (P : Outcome → Type 0) (s : State) (m : List ℕ) where
+  chosen : (k : ℕ) (t : Bool) → eqb k 0 ≡ t → (k ≡ 0 → P (tryOf s m)) → ((k ≡ 0 → ⊥) → P (outcome k s m)) → P (cond t (tryOf s m) (outcome k s m))
+  chosen k true e p q = p (eqb-true k 0 e)
+  chosen k false e p q = q (eqb-false k 0 e)
+
+  pub by-refusal : (refusalOf s (length m) ≡ 0 → P (tryOf s m)) → ((k : ℕ) → (k ≡ 0 → ⊥) → P (outcome k s m)) → P (stepOf s m)
+  unfolding stepOf
+  by-refusal p q = chosen (refusalOf s (length m)) (eqb (refusalOf s (length m)) 0) refl p (q (refusalOf s (length m)))
+
+-- the step, by what the code finds
+module _ (s : State) (m : List ℕ) where
+  pub step-refused : (k : ℕ) → k ≡ refusalOf s (length m) → (k ≡ 0 → ⊥) → outcome k s m ≡ stepOf s m
+  unfolding stepOf
+  step-refused k e n = rw (← e, ne-eqb k 0 n)
+
+  abbrev tried : Effect → Machine → Outcome
+  tried e x = record { number = exitOf e; machine = x }
+
+  pub step-done : refusalOf s (length m) ≡ 0 → (c : Special) → c ≡ specialOf s → (e : Effect) → e ≡ effectAt s m → (l : List ℕ) (d : Special) (x : List ℕ) → machine l d x ≡ appliedOf e (s .registers) c m → (k : ℕ) → k ≡ exitOf e → (t : State) → t ≡ joinOf l d → outcome k t x ≡ stepOf s m
+  unfolding stepOf tryOf
+  step-done z c p e q l d x a k n t j =
+      rw (n, j) (ap (tried e) a ∙ rw (z, ← q, p))
+
+-- an exit and a refusal change no state and no memory
+pub exit-leaves : (s : State) (m : List ℕ) → (stepOf s m .number ≡ 0 → ⊥) → stepOf s m .machine ≡ record { state = s; memory = m }
+unfolding tryOf
+exit-leaves s m =
+    by-refusal (λ o. (o .number ≡ 0 → ⊥) → o .machine ≡ record { state = s; memory = m }) s m
+    (λ _. apply-exit (effectAt s m) s m)
+    (λ k n _. refl)
+
+-- ---- a valid state leads to a valid state
+
+-- the refusals, by what the code finds
+module _ (s : State) (n : ℕ) where
+  pub too-long : longest < n → 1 ≡ refusalOf s n
+  unfolding refusalOf
+  too-long h = rw (lt-ltb longest n h)
+
+  module _ (h : n ≤ longest) where
+    pub no-refusal : isLawful s ≡ true → 0 ≡ refusalOf s n
+    unfolding refusalOf
+    no-refusal e = rw (le-ltb longest n h, e)
+
+    pub not-lawful : isLawful s ≡ false → 17 ≡ refusalOf s n
+    unfolding refusalOf
+    not-lawful e = rw (le-ltb longest n h, e)
+
+-- a state that is not refused by 17
+lawful-of : (t u : Bool) → _≡_ {A = ℕ} (cond t 1 (cond u 0 17)) 0 → u ≡ true
+lawful-of true u e = let z : ⊥ = omega (arith, e) in absurd z
+lawful-of false true e = refl
+lawful-of false false e = let z : ⊥ = omega (arith, e) in absurd z
+
+pub not-refused : (s : State) (n : ℕ) → refusalOf s n ≡ 0 → isLawful s ≡ true
+unfolding refusalOf
+not-refused s n e = lawful-of (ltb longest n) (isLawful s) e
+
+pub step-valid : (s : State) (m : List ℕ) → Valid s → Bytes m → Valid (stepOf s m .machine .state)
+unfolding tryOf
+step-valid s m v b =
+    by-refusal (λ o. Valid (o .machine .state)) s m
+    (λ _. apply-valid (effectAt s m) s m (effect-sound s m v b) v b)
+    (λ k n. v)
+
+-- a state that 17 does not refuse leads to one that it does not refuse
+pub step-lawful : (s : State) (m : List ℕ) → Typed s → Bytes m → isLawful s ≡ true → isLawful (stepOf s m .machine .state) ≡ true
+step-lawful s m t b e = lawful (stepOf s m .machine .state) (step-valid s m (valid s t e) b)
+
+-- registers stay below 2^32; a state that 17 refuses is left as it is
+typed-by : (s : State) (m : List ℕ) → Typed s → Bytes m → (u : Bool) → isLawful s ≡ u → Typed (stepOf s m .machine .state)
+typed-by s m t b true e = typed (stepOf s m .machine .state) (step-valid s m (valid s t e) b)
+typed-by s m t b false e =
+    by-refusal (λ o. Typed (o .machine .state)) s m
+    (λ z. absurd (true≢false (sym (not-refused s (length m) z) ∙ e)))
+    (λ k n. t)
+
+pub step-typed : (s : State) (m : List ℕ) → Typed s → Bytes m → Typed (stepOf s m .machine .state)
+step-typed s m t b = typed-by s m t b (isLawful s) refl
+
+-- register 0 stays zero
+apply-zero : (e : Effect) (s : State) (m : List ℕ) → registerOf (applyOf e s m .state .registers) 0 ≡ registerOf (s .registers) 0
+apply-zero (Exit e) s m = refl
+apply-zero Advance s m = refl
+apply-zero (Write r v) s m = put-zero (s .registers) r v
+apply-zero (Pair h l) s m = refl
+apply-zero (Jump t) s m = refl
+apply-zero (Link r v t) s m = put-zero (s .registers) r v
+apply-zero (LoadByte r a x) s m = put-zero (s .registers) r _
+apply-zero (LoadHalf r a x) s m = put-zero (s .registers) r _
+apply-zero (LoadWord r a) s m = put-zero (s .registers) r _
+apply-zero (LoadLinked r a) s m = put-zero (s .registers) r _
+apply-zero (StoreByte a v) s m = refl
+apply-zero (StoreHalf a v) s m = refl
+apply-zero (StoreWord a v) s m = refl
+apply-zero (StoreLinked r a v) s m = put-zero (s .registers) r 1
+apply-zero (Control r v) s m = refl
+apply-zero (Return x) s m = refl
+
+pub step-zero : (s : State) (m : List ℕ) → registerOf (stepOf s m .machine .state .registers) 0 ≡ registerOf (s .registers) 0
+unfolding tryOf
+step-zero s m =
+    by-refusal (λ o. registerOf (o .machine .state .registers) 0 ≡ registerOf (s .registers) 0) s m
+    (λ _. apply-zero (effectAt s m) s m)
+    (λ k n. refl)
+
+-- ---- memory
+
+-- what holds of the memory, and of it after each store of the effect's bytes, holds after the effect
+module _ (P : Span → List ℕ → Type 0) (s : State) (m : List ℕ) (stay : P (span 0 0) m) (store : (w a v : ℕ) → P (span a w) (storeOf w m a v)) where
+  pub apply-memory : (e : Effect) → P (storedOf e) (applyOf e s m .memory)
+  apply-memory (Exit e) = stay
+  apply-memory Advance = stay
+  apply-memory (Write r v) = stay
+  apply-memory (Pair h l) = stay
+  apply-memory (Jump t) = stay
+  apply-memory (Link r v t) = stay
+  apply-memory (LoadByte r a x) = stay
+  apply-memory (LoadHalf r a x) = stay
+  apply-memory (LoadWord r a) = stay
+  apply-memory (LoadLinked r a) = stay
+  apply-memory (StoreByte a v) = store 1 a v
+  apply-memory (StoreHalf a v) = store 2 a v
+  apply-memory (StoreWord a v) = store 4 a v
+  apply-memory (StoreLinked r a v) = store 4 a v
+  apply-memory (Control r v) = stay
+  apply-memory (Return x) = stay
+
+-- memory keeps its length
+pub step-length : (s : State) (m : List ℕ) → length (stepOf s m .machine .memory) ≡ length m
+unfolding tryOf
+step-length s m =
+    by-refusal (λ o. length (o .machine .memory) ≡ length m) s m
+    (λ _. apply-memory (λ _ x. length x ≡ length m) s m refl (λ w a v. store-length w m a v) (effectAt s m))
+    (λ k n. refl)
+
+-- bytes stay below 256
+pub step-bytes : (s : State) (m : List ℕ) → Bytes m → Bytes (stepOf s m .machine .memory)
+unfolding tryOf
+step-bytes s m b =
+    by-refusal (λ o. Bytes (o .machine .memory)) s m
+    (λ _. apply-memory (λ _ x. Bytes x) s m b (λ w a v. store-bytes w m a v b) (effectAt s m))
+    (λ k n. b)
+
+-- a step leaves all bytes but those that its effect stores
+pub step-keeps : (s : State) (m : List ℕ) (i : ℕ) → Outside i (storedOf (effectAt s m)) → getD (stepOf s m .machine .memory) i 0 ≡ getD m i 0
+unfolding tryOf
+step-keeps s m i h =
+    by-refusal (λ o. getD (o .machine .memory) i 0 ≡ getD m i 0) s m
+    (λ _. apply-memory (λ x y. Outside i x → getD y i 0 ≡ getD m i 0) s m (λ _. refl) (λ w a v. ⊎-elim (store-below w m a v i) (store-above w m a v i)) (effectAt s m) h)
+    (λ k n. refl)
+
+-- what a sound effect stores is its instruction's access
+stored-of : {n at w : ℕ} (e : Effect) → Sound e n at w → (storedOf e .width ≡ 0) ⊎ (storedOf e ≡ span at w)
+stored-of (Exit e) k = inl refl
+stored-of Advance k = inl refl
+stored-of (Write r v) k = inl refl
+stored-of (Pair h l) k = inl refl
+stored-of (Jump t) k = inl refl
+stored-of (Link r v t) k = inl refl
+stored-of (LoadByte r a x) k = inl refl
+stored-of (LoadHalf r a x) k = inl refl
+stored-of (LoadWord r a) k = inl refl
+stored-of (LoadLinked r a) k = inl refl
+stored-of (StoreByte a v) k = inr (rw (k .keeps .same-address, k .keeps .same-width))
+stored-of (StoreHalf a v) k = inr (rw (k .keeps .same-address, k .keeps .same-width))
+stored-of (StoreWord a v) k = inr (rw (k .keeps .same-address, k .keeps .same-width))
+stored-of (StoreLinked r a v) k = inr (rw (k .keeps .1 .same-address, k .keeps .1 .same-width))
+stored-of (Control r v) k = inl refl
+stored-of (Return x) k = inl refl
+
+-- a step that does not store leaves memory
+pub step-leaves : (s : State) (m : List ℕ) → storedOf (effectAt s m) .width ≡ 0 → stepOf s m .machine .memory ≡ m
+unfolding tryOf
+step-leaves s m h =
+    by-refusal (λ o. o .machine .memory ≡ m) s m
+    (λ _. apply-memory (λ x y. x .width ≡ 0 → y ≡ m) s m (λ _. refl) (λ w a v e. rw e) (effectAt s m) h)
+    (λ k n. refl)
+
+-- a step leaves all bytes but its access's
+pub step-outside : (s : State) (m : List ℕ) → Valid s → Bytes m → (i : ℕ) → Outside i (accessAt s m) → getD (stepOf s m .machine .memory) i 0 ≡ getD m i 0
+step-outside s m v b i h =
+    ⊎-elim
+    (λ z. rw (step-leaves s m z))
+    (λ e. step-keeps s m i (rw e h))
+    (stored-of (effectAt s m) (effect-sound s m v b))

@@ -1,0 +1,214 @@
+-- The states that refusal 17 lets pass, and that a sound effect leads from one to another.
+use Prim.Native.Nat.{ℕ, zero, suc, _+_, _*_, _%_, _/_, _^_, _≤_, _<_}
+use mathlib.Core.Path.{_≡_, refl, sym, _∙_}
+use mathlib.Core.Bool.{Bool, true, false, cond, _&&_, false≢true}
+use mathlib.Core.List.{List}
+use native.Mathlib.Omega.{arith}
+use lib.Dec.{eqb, ltb}
+use lib.ListN.{length, getD, set, length-set}
+use lib.Seq.{getD-set-same, getD-set-other}
+use borrow.Author.Tests.{eqb-true, eqb-false, ltb-true, ne-eqb, lt-ltb}
+use Rattle.word.specs.Number.{signedOf, extendOf}
+use Rattle.word.specs.Bytes.{loadOf, storeOf}
+use Rattle.word.proofs.Numbers.{wrap-below}
+use Rattle.word.proofs.Memory.{load-lt, set-every}
+use Rattle.effect.specs.declared.effect.Special.{Special}
+use Rattle.effect.specs.declared.effect.Effect.{Effect}
+use Rattle.effect.specs.declared.effect.Effect.the-variants.{Exit, Advance, Write, Pair, Jump, Link, LoadByte, LoadHalf, LoadWord, LoadLinked, StoreByte, StoreHalf, StoreWord, StoreLinked, Control, Return}
+use Rattle.effect.specs.Branch.{slotOf}
+use Rattle.effect.specs.Sound.{Sound, Keeps, Register, Word, Aligned, Regular}
+use Rattle.machine.specs.declared.state.State.{State}
+use Rattle.machine.specs.State.{registerOf, specialOf, joinOf, isLawful, Words, Typed, Bytes}
+use Rattle.machine.specs.Apply.{special, putOf, jumpOf, advanceOf, pairOf, linkedOf, badOf, statusOf, causeOf, epcOf, controlledOf, loadedOf, appliedOf, applyOf}
+
+-- ---- the 32 registers
+
+pub record Registers (l : List ℕ) : Type 0 where
+  pub count : length l ≡ 32
+  pub words : (r : ℕ) → Word (registerOf l r)
+  pub zero-register : registerOf l 0 ≡ 0
+
+pub record Valid (s : State) : Type 0 where
+  pub registers : Registers (s .registers)
+  pub special : Regular (specialOf s)
+
+both : (p q : Bool) → p && q ≡ true → (p ≡ true) × (q ≡ true)
+both true q e = (refl, e)
+both false q e = absurd (false≢true e)
+
+pub regular : (l : List ℕ) (c : Special) → Words c → isLawful (joinOf l c) ≡ true → Regular c
+unfolding isLawful
+regular l c w e =
+    let (_, e₁) = both (eqb (registerOf l 0) 0) _ e in
+    let (p, e₂) = both (eqb (c .pc % 4) 0) _ e₁ in
+    let (q, s) = both (eqb (c .«next_pc» % 4) 0) _ e₂ in
+    record {
+      hi = w .hi;
+      lo = w .lo;
+      pc = (w .pc, eqb-true _ _ p);
+      next-pc = (w .next-pc, eqb-true _ _ q);
+      bad = w .bad;
+      status = ltb-true _ _ s;
+      cause = w .cause;
+      epc = w .epc;
+    }
+
+first : (s : State) → isLawful s ≡ true → registerOf (s .registers) 0 ≡ 0
+unfolding isLawful
+first s e = eqb-true _ _ (both (eqb (registerOf (s .registers) 0) 0) _ e .0)
+
+pub valid : (s : State) → Typed s → isLawful s ≡ true → Valid s
+valid s t e =
+    record {
+      registers = record { count = t .count; words = t .registers; zero-register = first s e };
+      special = regular (s .registers) (specialOf s) (t .special) e;
+    }
+
+pub lawful : (s : State) → Valid s → isLawful s ≡ true
+unfolding isLawful
+lawful s v =
+    rw (v .registers .zero-register, v .special .pc .1, v .special .next-pc .1, lt-ltb (s .status) (2 ^ 13) (v .special .status))
+
+words : (c : Special) → Regular c → Words c
+words c r =
+    record {
+      hi = r .hi;
+      lo = r .lo;
+      pc = r .pc .0;
+      next-pc = r .next-pc .0;
+      bad = r .bad;
+      status = omega (arith, r .status);
+      cause = r .cause;
+      epc = r .epc;
+    }
+
+pub typed : (s : State) → Valid s → Typed s
+typed s v =
+    record { count = v .registers .count; registers = v .registers .words; special = words (specialOf s) (v .special) }
+
+module _ (l : List ℕ) (r v : ℕ) where
+  pub put-other : (r ≡ 0 → ⊥) → set l r v ≡ putOf l r v
+  unfolding putOf
+  put-other n = rw (ne-eqb r 0 n)
+
+  pub put-none : r ≡ 0 → l ≡ putOf l r v
+  unfolding putOf
+  put-none e = rw e
+
+  zero-of : (t : Bool) → eqb r 0 ≡ t → registerOf (cond t l (set l r v)) 0 ≡ registerOf l 0
+  zero-of true e = refl
+  zero-of false e = getD-set-other l r 0 v 0 (λ q. eqb-false r 0 e (sym q))
+
+  pub put-zero : registerOf (putOf l r v) 0 ≡ registerOf l 0
+  unfolding putOf
+  put-zero = zero-of (eqb r 0) refl
+
+  put-of : (t : Bool) → eqb r 0 ≡ t → Registers l → Word v → Registers (cond t l (set l r v))
+  put-of true e g k = g
+  put-of false e g k =
+      record {
+        count = length-set l r v ∙ g .count;
+        words = set-every Word l r v k (g .words);
+        zero-register = zero-of false e ∙ g .zero-register;
+      }
+
+  -- also where r is 0, since writes to it vanish
+  pub put-registers : Registers l → Word v → Registers (putOf l r v)
+  unfolding putOf
+  put-registers g k = put-of (eqb r 0) refl g k
+
+-- ---- the other registers
+
+slot-aligned : (a : ℕ) → Aligned a → Aligned (slotOf a)
+unfolding slotOf
+slot-aligned a (h, k) = (omega arith, omega arith)
+
+module _ {c : Special} (g : Regular c) where
+  jump-regular : {t : ℕ} → Aligned t → Regular (jumpOf c t)
+  jump-regular h =
+      record {
+        hi = g .hi;
+        lo = g .lo;
+        pc = g .next-pc;
+        next-pc = h;
+        bad = g .bad;
+        status = g .status;
+        cause = g .cause;
+        epc = g .epc;
+      }
+
+  advance-regular : Regular (advanceOf c)
+  advance-regular = jump-regular (slot-aligned (c .«next_pc») (g .next-pc))
+
+  -- all but the program counters may be others
+  others-regular : {h l b s u e : ℕ} {k : Bool} → Word h → Word l → Word b → s < 2 ^ 13 → Word u → Word e → Regular (special h l (c .pc) (c .«next_pc») k b s u e)
+  others-regular h l b s u e = record { hi = h; lo = l; pc = g .pc; next-pc = g .next-pc; bad = b; status = s; cause = u; epc = e }
+
+  pair-regular : {h l : ℕ} → Word h → Word l → Regular (pairOf c h l)
+  pair-regular h l = others-regular h l (g .bad) (g .status) (g .cause) (g .epc)
+
+  linked-regular : {k : Bool} → Regular (linkedOf c k)
+  linked-regular = others-regular (g .hi) (g .lo) (g .bad) (g .status) (g .cause) (g .epc)
+
+  return-regular : {s : ℕ} → s < 2 ^ 13 → Regular (linkedOf (statusOf c s) false)
+  return-regular h = others-regular (g .hi) (g .lo) (g .bad) h (g .cause) (g .epc)
+
+  either : (t : Bool) {x y : Special} → Regular x → Regular y → Regular (cond t x y)
+  either true p q = p
+  either false p q = q
+
+  control-regular : (r : ℕ) {v : ℕ} → Word v → Regular (controlledOf c r v)
+  unfolding controlledOf
+  control-regular r h =
+      either (eqb r 8) (others-regular (g .hi) (g .lo) h (g .status) (g .cause) (g .epc))
+      (either (eqb r 12) (others-regular (g .hi) (g .lo) (g .bad) (omega arith) (g .cause) (g .epc))
+      (either (eqb r 13) (others-regular (g .hi) (g .lo) (g .bad) (g .status) h (g .epc))
+      (others-regular (g .hi) (g .lo) (g .bad) (g .status) (g .cause) h)))
+
+-- ---- an effect carried out
+
+loaded-below : (k x : ℕ) (t : Bool) → Word x → Word (loadedOf k t x)
+unfolding loadedOf extendOf
+loaded-below k x true h = wrap-below 32 (signedOf k (x % 2 ^ k))
+loaded-below k x false h = h
+
+module _ {l : List ℕ} {c : Special} (m : List ℕ) (g : Registers l) (q : Regular c) (b : Bytes m) where
+  byte-below : (a : ℕ) → Word (loadOf 1 m a)
+  byte-below a = omega (arith, load-lt 1 m a b)
+
+  half-below : (a : ℕ) → Word (loadOf 2 m a)
+  half-below a = omega (arith, load-lt 2 m a b)
+
+  word-below : (a : ℕ) → Word (loadOf 4 m a)
+  word-below a = omega (arith, load-lt 4 m a b)
+
+  -- the program counters move on, and a register is written
+  written : {v : ℕ} (r : ℕ) → Word v → Valid (joinOf (putOf l r v) (advanceOf c))
+  written {v} r h = record { registers = put-registers l r v g h; special = advance-regular q }
+
+  unwritten : {d : Special} → Regular d → Valid (joinOf l d)
+  unwritten h = record { registers = g; special = h }
+
+  applied-valid : {at w : ℕ} (e : Effect) → Sound e (length m) at w → Valid (appliedOf e l c m .state)
+  applied-valid (Exit e) k = unwritten q
+  applied-valid Advance k = unwritten (advance-regular q)
+  applied-valid (Write r v) k = written r (k .keeps .1)
+  applied-valid (Pair h o) k = unwritten (pair-regular (advance-regular q) (k .keeps .0) (k .keeps .1))
+  applied-valid (Jump t) k = unwritten (jump-regular q (k .keeps))
+  applied-valid (Link r v t) k =
+      record { registers = put-registers l r v g (k .keeps .1 .0); special = jump-regular q (k .keeps .1 .1) }
+  applied-valid (LoadByte r a s) k = written r (loaded-below 8 (loadOf 1 m a) s (byte-below a))
+  applied-valid (LoadHalf r a s) k = written r (loaded-below 16 (loadOf 2 m a) s (half-below a))
+  applied-valid (LoadWord r a) k = written r (word-below a)
+  applied-valid (LoadLinked r a) k =
+      record { registers = put-registers l r (loadOf 4 m a) g (word-below a); special = linked-regular (advance-regular q) }
+  applied-valid (StoreByte a v) k = unwritten (advance-regular q)
+  applied-valid (StoreHalf a v) k = unwritten (advance-regular q)
+  applied-valid (StoreWord a v) k = unwritten (advance-regular q)
+  applied-valid (StoreLinked r a v) k =
+      record { registers = put-registers l r 1 g (omega arith); special = linked-regular (advance-regular q) }
+  applied-valid (Control r v) k = unwritten (control-regular (advance-regular q) r (k .keeps))
+  applied-valid (Return s) k = unwritten (return-regular (advance-regular q) (k .keeps))
+
+pub apply-valid : {at w : ℕ} (e : Effect) (s : State) (m : List ℕ) → Sound e (length m) at w → Valid s → Bytes m → Valid (applyOf e s m .state)
+apply-valid e s m k v b = applied-valid m (v .registers) (v .special) b e k

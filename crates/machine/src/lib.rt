@@ -1,0 +1,4 @@
+// The machine: its state, and one step.
+pub mod apply;
+pub mod state;
+pub mod step;

@@ -1,0 +1,101 @@
+// One step: fetched, read, decided, carried out.
+ghost use mathlib.Core.Path.{_≡_};
+ghost use mathlib.Core.Bool.{true};
+ghost use Prim.Native.Nat.{_<_, _^_};
+ghost use lib.ListN.{length};
+ghost use Rattle.effect.specs.Sound.{Performable};
+ghost use Rattle.machine.specs.State.{registerOf, joinOf, isLawful};
+ghost use Rattle.machine.specs.Step as Spec;
+use crate::state::State;
+use effect::effect::Effect;
+use effect::effect::Special;
+use isa::reader::Reading;
+
+// The outcome's number, and the state that the step leaves.
+pub struct Stepped {
+    pub number: u32,
+    pub state: State,
+}
+
+// Says of a word what its type says.
+fn bounded(x: u32) -> u32
+    ensures { λ r. ⌜ (r ≡ x) × (r < 2 ^ 32) ⌝ }
+{
+    x
+}
+
+fn register(registers: &[u32; 32], r: u32) -> u32
+    requires { ⌜ r < 2 ^ 5 ⌝ }
+    ensures { λ x. ⌜ (x ≡ registerOf (now (registers .entry)) r) × (x < 2 ^ 32) ⌝ }
+{
+    let i = r as usize;
+    bounded(registers[i])
+}
+
+// What the step of a state does; where the state is lawful, that can be carried out.
+pub fn effect_at(c: Special, registers: &[u32; 32], memory: &[u8]) -> Effect
+    ensures { λ e. ⌜ (e ≡ Spec.effectAt (joinOf (now (registers .entry)) c) (now (memory .entry))) × (isLawful (joinOf (now (registers .entry)) c) ≡ true → Performable e (length (now (memory .entry)))) ⌝ }
+{
+    let at = c.pc as usize;
+    let n = memory.len();
+    if n < at + 4 {
+        return Effect::Exit(effect::exit::FETCH);
+    }
+    let w = word::bytes::load32(memory, at);
+    match isa::reader::read(w) {
+        Reading::NoInstruction => Effect::Exit(effect::exit::NO_INSTRUCTION),
+        Reading::Legal(i) => effect::decision::decide(
+            i,
+            register(registers, i.rs),
+            register(registers, i.rt),
+            c,
+            n,
+        ),
+    }
+}
+
+// The exit's number; 0 where the step completes.
+pub fn exit_of(e: Effect) -> u32
+    ensures { λ n. ⌜ n ≡ Spec.exitOf e ⌝ }
+{
+    match e {
+        Effect::Exit(n) => n,
+        Effect::Advance => 0,
+        Effect::Write(_, _) => 0,
+        Effect::Pair(_, _) => 0,
+        Effect::Jump(_) => 0,
+        Effect::Link(_, _, _) => 0,
+        Effect::LoadByte(_, _, _) => 0,
+        Effect::LoadHalf(_, _, _) => 0,
+        Effect::LoadWord(_, _) => 0,
+        Effect::LoadLinked(_, _) => 0,
+        Effect::StoreByte(_, _) => 0,
+        Effect::StoreHalf(_, _) => 0,
+        Effect::StoreWord(_, _) => 0,
+        Effect::StoreLinked(_, _, _) => 0,
+        Effect::Control(_, _) => 0,
+        Effect::Return(_) => 0,
+    }
+}
+
+impl State {
+    pub fn step(self, memory: &mut [u8]) -> Stepped
+        ensures { λ r. ⌜ Spec.outcome (r .number) (r .state) (now (memory .exit)) ≡ Spec.stepOf self (now (memory .entry)) ⌝ }
+    {
+        let refused = self.refusal(memory.len());
+        if refused != 0 {
+            return Stepped {
+                number: refused,
+                state: self,
+            };
+        }
+        let mut registers = self.registers;
+        let special = self.special();
+        let e = effect_at(special, &registers, memory);
+        let after = crate::apply::apply(e, special, &mut registers, memory);
+        Stepped {
+            number: exit_of(e),
+            state: crate::state::join(registers, after),
+        }
+    }
+}
