@@ -23,5 +23,8 @@ archive:
 
 bench: archive
 	@mkdir -p target/bench
+	@rt check steps > target/bench.log 2>&1 || { cat target/bench.log; exit 1; }
 	@$(CC) $(CFLAGS) -o target/bench/read bench/read.c bench/plain_read.c $(ARCHIVE)
+	@$(CC) $(CFLAGS) -o target/bench/step bench/step.c bench/plain_step.c
 	@target/bench/read
+	@target/bench/step target/bin/steps

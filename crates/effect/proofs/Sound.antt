@@ -1,6 +1,6 @@
 -- Every effect of an instruction with operands in range is sound: one clause for each instruction.
-use Prim.Native.Nat.{ℕ, _+_, _*_, _-_, _/_, _%_, _^_, _≤_, _<_}
-use mathlib.Core.Path.{_≡_, refl, sym}
+use Prim.Native.Nat.{ℕ, _+_, _*_, _-_, _%_, _^_, _≤_, _<_}
+use mathlib.Core.Path.{_≡_, refl}
 use mathlib.Core.Bool.{Bool, true, false, cond, not, _&&_, false≢true}
 use lib.IntN.{ℤ, _*ℤ_}
 use lib.Signed.{quotZ, remZ, shrZ}
@@ -35,7 +35,7 @@ use Rattle.isa.specs.declared.kind.Kind.{Kind}
 use Rattle.isa.specs.declared.kind.Kind.the-variants as K
 use Rattle.effect.specs.declared.effect.Special.{Special}
 use Rattle.effect.specs.declared.effect.Effect.{Effect}
-use Rattle.effect.specs.declared.effect.Effect.the-variants.{Exit, Advance, Write, Pair, Jump, Link, LoadByte, LoadHalf, LoadWord, LoadLinked, StoreByte, StoreHalf, StoreWord, StoreLinked, Control, Return}
+use Rattle.effect.specs.declared.effect.Effect.the-variants.{Exit, Advance, Write, Pair, Jump, Link}
 use Rattle.effect.specs.Arithmetic.{aluOf, immediateOf, shiftOf, multiplyOf, bit, checked, product, divided, shiftedLeft, shiftedRight, shiftedSigned}
 use Rattle.effect.specs.Access.{accessOf, addressOf, reaches, loadIf, storeIf, conditional}
 use Rattle.effect.specs.Branch.{branchOf, branchIf, linkIf, jumpIf, slotOf, linkOf, relativeOf, regionOf}
@@ -215,7 +215,7 @@ extend-aligned x = by-test (bitAnd (x * 4) (2 ^ 18 - 1)) (2 ^ 17) low high
     high : 2 ^ 17 ≤ bitAnd (x * 4) (2 ^ 18 - 1) → extendOf 18 (x * 4) % 4 ≡ 0
     high h = rw (← extend-set 18 (x * 4) (omega arith) h, same) (omega arith)
 
-slot-aligned : {pc : ℕ} → Aligned pc → Aligned (slotOf pc)
+pub slot-aligned : {pc : ℕ} → Aligned pc → Aligned (slotOf pc)
 unfolding slotOf
 slot-aligned (h, k) = (omega arith, omega arith)
 

@@ -58,7 +58,7 @@ fn conditional(ll: bool, rt: u32, at: u32, b: u32) -> Effect
     }
 }
 
-pub fn access(k: Access, rt: u32, a: u32, b: u32, v: u32, ll: bool, n: usize) -> Effect
+pub(crate) fn access(k: Access, rt: u32, a: u32, b: u32, v: u32, ll: bool, n: usize) -> Effect
     ensures { λ e. ⌜ e ≡ Spec.accessOf k rt a b v ll n ⌝ }
 {
     let at = address(a, v);

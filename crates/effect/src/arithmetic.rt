@@ -38,7 +38,7 @@ fn subtracted(register: u32, a: u32, b: u32) -> Effect
     Effect::Exit(crate::exit::INTEGER_OVERFLOW)
 }
 
-pub fn alu(k: Alu, rd: u32, a: u32, b: u32) -> Effect
+pub(crate) fn alu(k: Alu, rd: u32, a: u32, b: u32) -> Effect
     ensures { λ e. ⌜ e ≡ Spec.aluOf k rd a b ⌝ }
 {
     match k {
@@ -55,7 +55,7 @@ pub fn alu(k: Alu, rd: u32, a: u32, b: u32) -> Effect
     }
 }
 
-pub fn immediate(k: Immediate, rt: u32, a: u32, v: u32) -> Effect
+pub(crate) fn immediate(k: Immediate, rt: u32, a: u32, v: u32) -> Effect
     ensures { λ e. ⌜ e ≡ Spec.immediateOf k rt a v ⌝ }
 {
     let x = word::number::extend16(v);
@@ -89,7 +89,7 @@ fn shifted_signed(b: u32, k: u32) -> u32
     signed::shift_right(b, k % 32)
 }
 
-pub fn shift(k: Shift, rd: u32, a: u32, b: u32, sa: u32) -> Effect
+pub(crate) fn shift(k: Shift, rd: u32, a: u32, b: u32, sa: u32) -> Effect
     ensures { λ e. ⌜ e ≡ Spec.shiftOf k rd a b sa ⌝ }
 {
     match k {
@@ -132,7 +132,7 @@ fn divided_unsigned(a: u32, b: u32) -> Effect
     Effect::Pair(a % b, a / b)
 }
 
-pub fn multiply(k: Multiply, rd: u32, a: u32, b: u32, hi: u32, lo: u32) -> Effect
+pub(crate) fn multiply(k: Multiply, rd: u32, a: u32, b: u32, hi: u32, lo: u32) -> Effect
     ensures { λ e. ⌜ e ≡ Spec.multiplyOf k rd a b hi lo ⌝ }
 {
     match k {

@@ -84,7 +84,7 @@ fn jump_if(target: u32, e: Effect) -> Effect
     }
 }
 
-pub fn branch(k: Branch, rd: u32, a: u32, b: u32, v: u32, pc: u32, next: u32) -> Effect
+pub(crate) fn branch(k: Branch, rd: u32, a: u32, b: u32, v: u32, pc: u32, next: u32) -> Effect
     ensures { λ e. ⌜ e ≡ Spec.branchOf k rd a b v pc next ⌝ }
 {
     match k {

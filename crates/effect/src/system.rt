@@ -59,7 +59,7 @@ fn privileged(status: u32, number: u32, e: Effect) -> Effect
     e
 }
 
-pub fn system(k: System, rt: u32, rd: u32, b: u32, v: u32, s: Special) -> Effect
+pub(crate) fn system(k: System, rt: u32, rd: u32, b: u32, v: u32, s: Special) -> Effect
     ensures { λ e. ⌜ e ≡ Spec.systemOf k rt rd b v s ⌝ }
 {
     let status = s.status;

@@ -23,7 +23,7 @@ fn at_least(a: u32, b: u32) -> bool
     !signed::less(a, b)
 }
 
-pub fn trap(k: Trap, a: u32, b: u32, v: u32) -> Effect
+pub(crate) fn trap(k: Trap, a: u32, b: u32, v: u32) -> Effect
     ensures { λ e. ⌜ e ≡ Spec.trapOf k a b v ⌝ }
 {
     let x = word::number::extend16(v);

@@ -1,5 +1,5 @@
 -- The theorems about a step: what it leaves where it exits or is refused, and what it keeps.
-use Prim.Native.Nat.{ℕ, _+_, _^_, _≤_, _<_}
+use Prim.Native.Nat.{ℕ, _+_, _≤_, _<_}
 use mathlib.Core.Path.{_≡_, refl, sym, ap, _∙_}
 use mathlib.Core.Bool.{Bool, true, false, cond, true≢false}
 use mathlib.Core.List.{List}
@@ -20,7 +20,7 @@ use Rattle.effect.specs.declared.effect.Effect.{Effect}
 use Rattle.effect.specs.declared.effect.Effect.the-variants.{Exit, Advance, Write, Pair, Jump, Link, LoadByte, LoadHalf, LoadWord, LoadLinked, StoreByte, StoreHalf, StoreWord, StoreLinked, Control, Return}
 use Rattle.effect.specs.Exit.{noInstruction, fetchOutside}
 use Rattle.effect.specs.Effect.{decisionOf}
-use Rattle.effect.specs.Sound.{Sound, Reach}
+use Rattle.effect.specs.Sound.{Sound}
 use Rattle.effect.proofs.Sound.{exits, decision-sound}
 use Rattle.machine.specs.declared.state.State.{State}
 use Rattle.machine.specs.State.{registerOf, specialOf, joinOf, isLawful, refusalOf, longest, Typed, Bytes}
@@ -119,6 +119,29 @@ exit-leaves s m =
     by-refusal (λ o. (o .number ≡ 0 → ⊥) → o .machine ≡ record { state = s; memory = m }) s m
     (λ _. apply-exit (effectAt s m) s m)
     (λ k n _. refl)
+
+-- the numbers of a step that is not refused: done, or an exit of document 01's list
+numbered : {n at w : ℕ} (e : Effect) → Sound e n at w → (exitOf e ≡ 0) ⊎ ((40 ≤ exitOf e) × (exitOf e ≤ 52))
+numbered (Exit e) k = inr (k .keeps)
+numbered Advance k = inl refl
+numbered (Write r v) k = inl refl
+numbered (Pair h l) k = inl refl
+numbered (Jump t) k = inl refl
+numbered (Link r v t) k = inl refl
+numbered (LoadByte r a x) k = inl refl
+numbered (LoadHalf r a x) k = inl refl
+numbered (LoadWord r a) k = inl refl
+numbered (LoadLinked r a) k = inl refl
+numbered (StoreByte a v) k = inl refl
+numbered (StoreHalf a v) k = inl refl
+numbered (StoreWord a v) k = inl refl
+numbered (StoreLinked r a v) k = inl refl
+numbered (Control r v) k = inl refl
+numbered (Return x) k = inl refl
+
+pub try-number : (s : State) (m : List ℕ) → Valid s → Bytes m → (tryOf s m .number ≡ 0) ⊎ ((40 ≤ tryOf s m .number) × (tryOf s m .number ≤ 52))
+unfolding tryOf
+try-number s m v b = numbered (effectAt s m) (effect-sound s m v b)
 
 -- ---- a valid state leads to a valid state
 

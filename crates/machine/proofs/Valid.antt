@@ -1,25 +1,25 @@
 -- The states that refusal 17 lets pass, and that a sound effect leads from one to another.
-use Prim.Native.Nat.{ℕ, zero, suc, _+_, _*_, _%_, _/_, _^_, _≤_, _<_}
+use Prim.Native.Nat.{ℕ, _%_, _^_, _<_}
 use mathlib.Core.Path.{_≡_, refl, sym, _∙_}
 use mathlib.Core.Bool.{Bool, true, false, cond, _&&_, false≢true}
 use mathlib.Core.List.{List}
 use native.Mathlib.Omega.{arith}
-use lib.Dec.{eqb, ltb}
-use lib.ListN.{length, getD, set, length-set}
-use lib.Seq.{getD-set-same, getD-set-other}
+use lib.Dec.{eqb}
+use lib.ListN.{length, set, length-set}
+use lib.Seq.{getD-set-other}
 use borrow.Author.Tests.{eqb-true, eqb-false, ltb-true, ne-eqb, lt-ltb}
 use Rattle.word.specs.Number.{signedOf, extendOf}
-use Rattle.word.specs.Bytes.{loadOf, storeOf}
+use Rattle.word.specs.Bytes.{loadOf}
 use Rattle.word.proofs.Numbers.{wrap-below}
 use Rattle.word.proofs.Memory.{load-lt, set-every}
 use Rattle.effect.specs.declared.effect.Special.{Special}
 use Rattle.effect.specs.declared.effect.Effect.{Effect}
 use Rattle.effect.specs.declared.effect.Effect.the-variants.{Exit, Advance, Write, Pair, Jump, Link, LoadByte, LoadHalf, LoadWord, LoadLinked, StoreByte, StoreHalf, StoreWord, StoreLinked, Control, Return}
-use Rattle.effect.specs.Branch.{slotOf}
-use Rattle.effect.specs.Sound.{Sound, Keeps, Register, Word, Aligned, Regular}
+use Rattle.effect.specs.Sound.{Sound, Word, Aligned, Regular}
+use Rattle.effect.proofs.Sound.{slot-aligned}
 use Rattle.machine.specs.declared.state.State.{State}
 use Rattle.machine.specs.State.{registerOf, specialOf, joinOf, isLawful, Words, Typed, Bytes}
-use Rattle.machine.specs.Apply.{special, putOf, jumpOf, advanceOf, pairOf, linkedOf, badOf, statusOf, causeOf, epcOf, controlledOf, loadedOf, appliedOf, applyOf}
+use Rattle.machine.specs.Apply.{special, putOf, jumpOf, advanceOf, pairOf, linkedOf, statusOf, controlledOf, loadedOf, appliedOf, applyOf}
 
 -- ---- the 32 registers
 
@@ -119,10 +119,6 @@ module _ (l : List ℕ) (r v : ℕ) where
 
 -- ---- the other registers
 
-slot-aligned : (a : ℕ) → Aligned a → Aligned (slotOf a)
-unfolding slotOf
-slot-aligned a (h, k) = (omega arith, omega arith)
-
 module _ {c : Special} (g : Regular c) where
   jump-regular : {t : ℕ} → Aligned t → Regular (jumpOf c t)
   jump-regular h =
@@ -138,7 +134,7 @@ module _ {c : Special} (g : Regular c) where
       }
 
   advance-regular : Regular (advanceOf c)
-  advance-regular = jump-regular (slot-aligned (c .«next_pc») (g .next-pc))
+  advance-regular = jump-regular (slot-aligned (g .next-pc))
 
   -- all but the program counters may be others
   others-regular : {h l b s u e : ℕ} {k : Bool} → Word h → Word l → Word b → s < 2 ^ 13 → Word u → Word e → Regular (special h l (c .pc) (c .«next_pc») k b s u e)

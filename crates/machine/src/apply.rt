@@ -165,7 +165,7 @@ fn store_linked(
     linked(write(registers, r, 1, c), false)
 }
 
-pub fn apply(e: Effect, c: Special, registers: &mut [u32; 32], memory: &mut [u8]) -> Special
+pub(crate) fn apply(e: Effect, c: Special, registers: &mut [u32; 32], memory: &mut [u8]) -> Special
     requires { ⌜ Performable e (length (now memory)) ⌝ }
     ensures { λ d. ⌜ Spec.machine (now (registers .exit)) d (now (memory .exit)) ≡ Spec.appliedOf e (now (registers .entry)) c (now (memory .entry)) ⌝ }
 {

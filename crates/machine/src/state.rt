@@ -1,6 +1,5 @@
 // The state (document 01, Machine), whole and in its two parts, and what is refused of it.
 ghost use mathlib.Core.Path.{_≡_};
-ghost use Rattle.effect.specs.Sound.{Regular};
 ghost use Rattle.machine.specs.State as Spec;
 use effect::effect::Special;
 
@@ -34,7 +33,7 @@ impl State {
     }
 
     // The refusals that step, run and resume try first; 0 where neither is due.
-    pub fn refusal(self, length: usize) -> u32
+    pub(crate) fn refusal(self, length: usize) -> u32
         ensures { λ r. ⌜ r ≡ Spec.refusalOf self length ⌝ }
     {
         if LONGEST < length {
@@ -43,7 +42,7 @@ impl State {
         if self.is_lawful() { 0 } else { STATE }
     }
 
-    pub fn special(self) -> Special
+    pub(crate) fn special(self) -> Special
         ensures { λ r. ⌜ r ≡ Spec.specialOf self ⌝ }
     {
         Special {
@@ -60,7 +59,7 @@ impl State {
     }
 }
 
-pub fn join(registers: [u32; 32], c: Special) -> State
+pub(crate) fn join(registers: [u32; 32], c: Special) -> State
     ensures { λ r. ⌜ r ≡ Spec.joinOf registers c ⌝ }
 {
     State {

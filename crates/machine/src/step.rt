@@ -33,7 +33,7 @@ fn register(registers: &[u32; 32], r: u32) -> u32
 }
 
 // What the step of a state does; where the state is lawful, that can be carried out.
-pub fn effect_at(c: Special, registers: &[u32; 32], memory: &[u8]) -> Effect
+pub(crate) fn effect_at(c: Special, registers: &[u32; 32], memory: &[u8]) -> Effect
     ensures { λ e. ⌜ (e ≡ Spec.effectAt (joinOf (now (registers .entry)) c) (now (memory .entry))) × (isLawful (joinOf (now (registers .entry)) c) ≡ true → Performable e (length (now (memory .entry)))) ⌝ }
 {
     let at = c.pc as usize;
@@ -55,7 +55,7 @@ pub fn effect_at(c: Special, registers: &[u32; 32], memory: &[u8]) -> Effect
 }
 
 // The exit's number; 0 where the step completes.
-pub fn exit_of(e: Effect) -> u32
+pub(crate) fn exit_of(e: Effect) -> u32
     ensures { λ n. ⌜ n ≡ Spec.exitOf e ⌝ }
 {
     match e {

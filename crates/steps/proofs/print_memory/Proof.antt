@@ -1,6 +1,5 @@
 use borrow.Author.Needs.{needs}
 use Prim.Native.Nat.{_≤_, _-_}
-use mathlib.Core.Path.{_≡_}
 use lib.ListN.{length}
 use Rattle.steps.proofs.print_memory.Statement.{statement}
 use Rattle.steps.proofs.print_memory.Tie as tie

@@ -1,7 +1,5 @@
 use borrow.Author.Needs.{needs}
 use Prim.Native.Nat.{_≤_, _-_}
-use mathlib.Core.Path.{_≡_}
-use lib.ListN.{length}
 use Rattle.steps.proofs.registers_of.Statement.{statement}
 use Rattle.steps.proofs.registers_of.Tie as tie
 

@@ -2,24 +2,6 @@ use borrow.Author.Needs.{needs}
 use Rattle.effect.proofs.system.system.Statement.{statement}
 use Rattle.effect.proofs.system.system.Tie as tie
 
-returns : tie.Need-returns
-returns c = rw (c .before .enum-told .given .1, c .system-call .ensures)
-
-returns-2 : tie.Need-returns-2
-returns-2 c = rw (c .before .enum-told2 .given .1, c .breakpoint .ensures)
-
-returns-3 : tie.Need-returns-3
-returns-3 c = rw (c .before .before .enum-told3 .given .1, c .privileged .ensures, c .before .restored .ensures)
-
-returns-4 : tie.Need-returns-4
-returns-4 c = rw (c .before .before .enum-told4 .given .1, c .privileged2 .ensures, c .before .control .ensures)
-
-returns-5 : tie.Need-returns-5
-returns-5 c = rw (c .before .enum-told5 .given .1, c .privileged3 .ensures)
-
-returns-6 : tie.Need-returns-6
-returns-6 c = rw (c .enum-told6 .given .1)
-
 pub system-spec : {M : Type 1} → statement M
 system-spec =
     tie.close
@@ -37,9 +19,9 @@ system-spec =
     (λ c. search needs)
     (λ c κs. search needs)
     (λ c. search needs)
-    returns
-    returns-2
-    returns-3
-    returns-4
-    returns-5
-    returns-6)
+    (λ c. rw (c .before .enum-told .given .1, c .system-call .ensures))
+    (λ c. rw (c .before .enum-told2 .given .1, c .breakpoint .ensures))
+    (λ c. rw (c .before .before .enum-told3 .given .1, c .privileged .ensures, c .before .restored .ensures))
+    (λ c. rw (c .before .before .enum-told4 .given .1, c .privileged2 .ensures, c .before .control .ensures))
+    (λ c. rw (c .before .enum-told5 .given .1, c .privileged3 .ensures))
+    (λ c. rw (c .enum-told6 .given .1)))
