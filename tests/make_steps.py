@@ -7,6 +7,7 @@ A case is 64 little-endian words: the state's 41 in the order of document 01, th
 (at least 1), and 84 bytes of memory, of which only that length is lent. The steps go on until they are done or one gives a number other
 than 0. The line is the last step's number, then ` I=XXXXXXXX` for each word of the state that changed and ` mA=XX` for each byte of memory.
 """
+import functools
 import random
 import struct
 import sys
@@ -14,7 +15,7 @@ import sys
 sys.dont_write_bytecode = True  # the imports would leave a folder beside the sources
 from emulator import (
     BAD, BRANCHES, CAUSE, COMBINED, CONSTANTS, CONSTANT_TRAPS, CONTROL, HI, LL, LO, LOADS, LONGEST, NAMES, NEXT,
-    PC, RETURN, SHIFTS, STATUS, STORES, TRAPS, TRIED, USER_MODE, WORD, step,
+    PC, RETURN, SHIFTS, STATUS, STORES, TRAPS, TRIED, USER_MODE, WORD, read, sign_extend, step,
 )
 from make_vectors import FIELDS, ROOT, TABLE, places, random_fields, write
 
