@@ -26,7 +26,7 @@ bit t = cond t 1 0
 unfoldable pub checked : ℕ → ℤ → Effect
 checked r z = cond (fitsOf 32 z) (Write r (wrapOf 32 z)) (Exit integerOverflow)
 
--- 1.1.1
+-- 1.1.1, 3-operand ALU
 abbrev pub aluOf : Alu → ℕ → ℕ → ℕ → Effect
 aluOf Add rd a b = checked rd (signedOf 32 a +ℤ signedOf 32 b)
 aluOf Addu rd a b = Write rd (sumOf a b)
@@ -39,7 +39,7 @@ aluOf Or rd a b = Write rd (bitOr a b)
 aluOf Xor rd a b = Write rd (bitXor a b)
 aluOf Nor rd a b = Write rd (2 ^ 32 - 1 - bitOr a b)
 
--- 1.1.2; SLTI and SLTIU write rt (document 01, Machine), and SLTIU's constant is sign-extended (Traps for the builder)
+-- 1.1.2, ALU with an immediate operand; SLTI and SLTIU write rt (document 01, Machine), and SLTIU's constant is sign-extended (Traps for the builder)
 abbrev pub immediateOf : Immediate → ℕ → ℕ → ℕ → Effect
 immediateOf Addi rt a v = checked rt (signedOf 32 a +ℤ signedOf 32 (extendOf 16 v))
 immediateOf Addiu rt a v = Write rt (sumOf a (extendOf 16 v))
@@ -60,7 +60,7 @@ shiftedRight b k = b / 2 ^ k
 unfoldable pub shiftedSigned : ℕ → ℕ → ℕ
 shiftedSigned b k = wrapOf 32 (shrZ (signedOf 32 b) (2 ^ k))
 
--- 1.1.3; the shift amount has five bits
+-- 1.1.3, shifts; the shift amount has five bits
 abbrev pub shiftOf : Shift → ℕ → ℕ → ℕ → ℕ → Effect
 shiftOf Sll rd a b sa = Write rd (shiftedLeft b (sa % 2 ^ 5))
 shiftOf Srl rd a b sa = Write rd (shiftedRight b (sa % 2 ^ 5))
@@ -81,7 +81,7 @@ zeroDivisor = Advance
 unfoldable pub divided : ℕ → ℕ → ℕ → Effect
 divided divisor quotient remainder = cond (eqb divisor 0) zeroDivisor (Pair remainder quotient)
 
--- 1.1.4; DIV truncates towards zero, and its remainder has the dividend's sign (document 01, Machine)
+-- 1.1.4, multiply and divide; DIV truncates towards zero, and its remainder has the dividend's sign (document 01, Machine)
 abbrev pub multiplyOf : Multiply → ℕ → ℕ → ℕ → ℕ → ℕ → Effect
 multiplyOf Mult rd a b hi lo = product (wrapOf 64 (signedOf 32 a *ℤ signedOf 32 b))
 multiplyOf Multu rd a b hi lo = product (a * b)
