@@ -1,8 +1,8 @@
 -- What cc100_read and cc100_write answer: the numbers that stand for each case of a reading and of a writing.
 use Prim.Native.Nat.{ℕ}
-use Rattle.isa.specs.declared.reader.Reading.{Reading}
-use Rattle.isa.specs.declared.reader.Reading.the-variants.{Legal, NoInstruction}
-use Rattle.isa.specs.declared.writer.Written.{Written}
+use Rattle.isa.specs.declared.reading.Reading.{Reading}
+use Rattle.isa.specs.declared.reading.Reading.the-variants.{Legal, NoInstruction}
+use Rattle.isa.specs.declared.writing.Written.{Written}
 use Rattle.isa.specs.Reading.{made}
 use Rattle.isa.specs.Writing.{writeOf, writtenNumber, writtenWord}
 use Rattle.cc100.specs.declared.number.Numbered.{Numbered}

@@ -5,8 +5,8 @@ ghost use Rattle.cc100.specs.Number.{kindOf};
 ghost use Rattle.cc100.specs.Instruction.{readAnswer, writeAnswer, writeNumbered};
 use crate::number::Numbered;
 use isa::kind::Instruction;
-use isa::reader::Reading;
-use isa::writer::Written;
+use isa::reading::Reading;
+use isa::writing::Written;
 
 // struct cc100_instruction; kind 0: no instruction.
 #[repr(C)]
@@ -68,7 +68,7 @@ fn write_answer(w: Written) -> WriteAnswer
 pub extern "C" fn cc100_read(word: u32) -> ReadAnswer
     ensures { λ a. ⌜ a ≡ readAnswer (readOf word) ⌝ }
 {
-    read_answer(isa::reader::read(word))
+    read_answer(reader::read(word))
 }
 
 #[no_mangle]
@@ -92,7 +92,7 @@ pub extern "C" fn cc100_write(
                 shift,
                 value,
             };
-            write_answer(isa::writer::write(i))
+            write_answer(writer::write(i))
         }
         Numbered::Unknown => WriteAnswer {
             number: 18,

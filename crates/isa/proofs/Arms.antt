@@ -9,8 +9,8 @@ use borrow.Author.Tests.{eq-eqb, ne-eqb}
 use Rattle.word.specs.declared.field.Fields.{Fields}
 use Rattle.word.specs.Field.{Fit}
 use Rattle.isa.specs.declared.kind.Kind.{Kind}
-use Rattle.isa.specs.declared.reader.Reading.{Reading}
-use Rattle.isa.specs.declared.reader.Reading.the-variants.{NoInstruction}
+use Rattle.isa.specs.declared.reading.Reading.{Reading}
+use Rattle.isa.specs.declared.reading.Reading.the-variants.{NoInstruction}
 use Rattle.isa.specs.Table.{rowOf, instructions}
 use Rattle.isa.specs.Reading.{readAs, readFields}
 use Rattle.isa.proofs.Codes.{tableOf, keyOf, keyIn, nothing, lookup, every, both}

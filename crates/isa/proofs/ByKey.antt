@@ -12,8 +12,8 @@ use Rattle.isa.specs.declared.kind.Kind.{Kind}
 use Rattle.isa.specs.declared.kind.Instruction.{Instruction}
 use Rattle.isa.specs.declared.format.Format.{Format}
 use Rattle.isa.specs.declared.format.Format.the-variants.{ThreeRegisters, ShiftAmount, TwoSources, OneSource, OneTarget, SourceTarget, SystemCode, Barrier, TrapCode, Condition, JumpIndex, Constant, BranchZero, UpperConstant, ControlMove, ExceptionReturn}
-use Rattle.isa.specs.declared.reader.Reading.{Reading}
-use Rattle.isa.specs.declared.reader.Reading.the-variants.{Legal, NoInstruction}
+use Rattle.isa.specs.declared.reading.Reading.{Reading}
+use Rattle.isa.specs.declared.reading.Reading.the-variants.{Legal, NoInstruction}
 use Rattle.isa.specs.Table.{rowOf, instructions}
 use Rattle.isa.specs.Drawing.{drawingOf}
 use Rattle.isa.specs.Reading.{decodeOf, drawingFor, fitsKind, readAs, readFrom, readFields, readOf}

@@ -8,7 +8,7 @@ use Rattle.word.specs.Field.{joinOf, Fit}
 use Rattle.isa.specs.declared.kind.Instruction.{Instruction}
 use Rattle.isa.specs.declared.format.Shape.{Shape}
 use Rattle.isa.specs.declared.format.Drawing.{Drawing}
-use Rattle.isa.specs.declared.writer.Written.the-variants.{Word, Refused}
+use Rattle.isa.specs.declared.writing.Written.the-variants.{Word, Refused}
 use Rattle.isa.specs.Table.{rowOf, shapeIn}
 use Rattle.isa.specs.Drawing.{drawingOf}
 use Rattle.isa.specs.Reading.{drawingFor}

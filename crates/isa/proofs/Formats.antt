@@ -10,7 +10,7 @@ use Rattle.isa.specs.declared.kind.Kind.{Kind}
 use Rattle.isa.specs.declared.kind.Instruction.{Instruction}
 use Rattle.isa.specs.declared.format.Format.{Format}
 use Rattle.isa.specs.declared.format.Format.the-variants.{ThreeRegisters, ShiftAmount, TwoSources, OneSource, OneTarget, SourceTarget, SystemCode, Barrier, TrapCode, Condition, JumpIndex, Constant, BranchZero, UpperConstant, ControlMove, ExceptionReturn}
-use Rattle.isa.specs.declared.reader.Reading.{Reading}
+use Rattle.isa.specs.declared.reading.Reading.{Reading}
 use Rattle.isa.specs.Table.{rowOf}
 use Rattle.isa.specs.Drawing.{drawingOf}
 use Rattle.isa.specs.Reading.{isControl, operand, fits, valueOf, made, decodeOf, legalIf, readAs}

@@ -11,8 +11,8 @@ use Rattle.isa.specs.declared.kind.Kind.{Kind}
 use Rattle.isa.specs.declared.kind.Instruction.{Instruction}
 use Rattle.isa.specs.declared.format.Role.{Role}
 use Rattle.isa.specs.declared.format.Drawing.{Drawing}
-use Rattle.isa.specs.declared.reader.Reading.the-variants.{Legal}
-use Rattle.isa.specs.declared.writer.Written.the-variants.{Word, Refused}
+use Rattle.isa.specs.declared.reading.Reading.the-variants.{Legal}
+use Rattle.isa.specs.declared.writing.Written.the-variants.{Word, Refused}
 use Rattle.isa.specs.Table.{rowOf}
 use Rattle.isa.specs.Reading.{operand, append, valueOf, decodeOf, drawingFor, fitsKind, readFields, readOf}
 use Rattle.isa.specs.Writing.{fieldOf, rest, restFunct, restShift, restRd, restRt, restRs, encodeOf, legal, writeOf}

@@ -10,8 +10,8 @@ use Rattle.isa.specs.declared.kind.Instruction.{Instruction}
 use Rattle.isa.specs.declared.format.Role.{Role}
 use Rattle.isa.specs.declared.format.Role.the-variants.{Operand, Control, Fixed, Code, Part}
 use Rattle.isa.specs.declared.format.Drawing.{Drawing}
-use Rattle.isa.specs.declared.reader.Reading.{Reading}
-use Rattle.isa.specs.declared.reader.Reading.the-variants.{Legal, NoInstruction}
+use Rattle.isa.specs.declared.reading.Reading.{Reading}
+use Rattle.isa.specs.declared.reading.Reading.the-variants.{Legal, NoInstruction}
 use Rattle.isa.specs.Table.{rowOf, instructions}
 use Rattle.isa.specs.Drawing.{drawingOf}
 

@@ -8,8 +8,8 @@ use Rattle.isa.specs.declared.kind.Instruction.{Instruction}
 use Rattle.isa.specs.declared.format.Role.{Role}
 use Rattle.isa.specs.declared.format.Role.the-variants.{Operand, Control, Fixed, Code, Part}
 use Rattle.isa.specs.declared.format.Drawing.{Drawing}
-use Rattle.isa.specs.declared.writer.Written.{Written}
-use Rattle.isa.specs.declared.writer.Written.the-variants.{Word, Refused}
+use Rattle.isa.specs.declared.writing.Written.{Written}
+use Rattle.isa.specs.declared.writing.Written.the-variants.{Word, Refused}
 use Rattle.isa.specs.Table.{rowOf}
 use Rattle.isa.specs.Reading.{isControl, drawingFor}
 

@@ -2,5 +2,5 @@
 pub mod class;
 pub mod format;
 pub mod kind;
-pub mod reader;
-pub mod writer;
+pub mod reading;
+pub mod writing;

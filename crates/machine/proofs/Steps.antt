@@ -11,8 +11,8 @@ use borrow.Author.Tests.{eqb-true, eqb-false, ne-eqb, lt-ltb, le-ltb, le-leb, lt
 use Rattle.word.specs.Bytes.{loadOf, storeOf}
 use Rattle.word.proofs.Memory.{store-length, store-below, store-above, store-bytes, load-lt}
 use Rattle.isa.specs.declared.kind.Instruction.{Instruction}
-use Rattle.isa.specs.declared.reader.Reading.{Reading}
-use Rattle.isa.specs.declared.reader.Reading.the-variants.{Legal, NoInstruction}
+use Rattle.isa.specs.declared.reading.Reading.{Reading}
+use Rattle.isa.specs.declared.reading.Reading.the-variants.{Legal, NoInstruction}
 use Rattle.isa.specs.Reading.{readOf}
 use Rattle.isa.proofs.RoundTrip.{Operands, read-operands}
 use Rattle.effect.specs.declared.effect.Special.{Special}

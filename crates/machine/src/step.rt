@@ -9,7 +9,7 @@ ghost use Rattle.machine.specs.Step as Spec;
 use crate::state::State;
 use effect::effect::Effect;
 use effect::effect::Special;
-use isa::reader::Reading;
+use isa::reading::Reading;
 
 // The outcome's number, and the state that the step leaves.
 pub struct Stepped {
@@ -42,7 +42,7 @@ pub(crate) fn effect_at(c: Special, registers: &[u32; 32], memory: &[u8]) -> Eff
         return Effect::Exit(effect::exit::FETCH);
     }
     let w = word::bytes::load32(memory, at);
-    match isa::reader::read(w) {
+    match reader::read(w) {
         Reading::NoInstruction => Effect::Exit(effect::exit::NO_INSTRUCTION),
         Reading::Legal(i) => effect::decision::decide(
             i,

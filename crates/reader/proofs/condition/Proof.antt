@@ -1,0 +1,19 @@
+use mathlib.Core.Path.{ap, refl, _∙_}
+use borrow.Author.Needs.{needs}
+use Rattle.word.specs.declared.field.Fields.{Fields}
+use Rattle.isa.specs.Reading.{readAs}
+use Rattle.isa.proofs.Formats.{condition}
+use Rattle.reader.proofs.condition.Statement.{statement}
+use Rattle.reader.proofs.condition.Tie as tie
+
+returns : tie.Need-returns
+returns c =
+    let s = c .before .before .before in
+    let f = c .before .before .cut .result in
+    let e = c .before .before .cut .ensures .0 in
+    condition (s .args .k) f (s .pre .0) (ap (λ (x : Fields). x .op) e ∙ s .pre .1) (ap (λ (x : Fields). x .rt) e ∙ s .pre .2)
+    (c .before .low16 .ensures) (c .instruction .ensures) refl
+    ∙ ap (readAs (s .args .k)) e
+
+pub condition-spec : {M : Type 1} → statement M
+condition-spec = tie.close (tie.spec (λ c κs. search needs) (λ c κs. c .cut .ensures .1) (λ c κs. search needs) returns)
