@@ -1,16 +1,19 @@
 -- Every effect of an instruction with operands in range is sound: one clause for each instruction.
 use Prim.Native.Nat.{ℕ, _+_, _*_, _-_, _%_, _^_, _≤_, _<_}
 use mathlib.Core.Path.{_≡_, refl}
+use mathlib.Core.Logic.{⊎-elim}
 use mathlib.Core.Bool.{Bool, true, false, cond, not, _&&_, false≢true}
 use lib.IntN.{ℤ, _*ℤ_}
 use lib.Signed.{quotZ, remZ, shrZ}
 use native.Mathlib.Omega.{arith}
-use native.Mathlib.Nat.{div-le-self, mod-le, mul-le-mul}
-use lib.Dec.{leb, ltb, eqb}
+use native.Mathlib.Nat.{div-le-self, mod-le}
+use lib.Dec.{leb, eqb}
 use lib.Bits.{bitAnd, and-lt, or-lt, xor-lt}
-use borrow.Author.Tests.{leb-true, eqb-true, ltb-true, ltb-false}
+use borrow.Author.Tests.{leb-true, eqb-true}
 use Rattle.word.specs.Number.{signedOf, fitsOf, extendOf}
 use Rattle.word.proofs.Bits.{mask-mod}
+use Rattle.signed.proofs.Integers.{lt-or-ge}
+use Rattle.signed.proofs.Words.{product-below}
 use Rattle.word.proofs.Numbers.{wrap-below, extend-clear, extend-set}
 use Rattle.isa.specs.Class.{classOf}
 use Rattle.isa.proofs.RoundTrip.{Operands}
@@ -107,12 +110,6 @@ right-below : {b : ℕ} (k : ℕ) → Word b → Word (shiftedRight b k)
 unfolding shiftedRight
 right-below {b} k h = omega (arith, div-le-self b (2 ^ k))
 
-product-below : (a b : ℕ) → Word a → Word b → a * b < 2 ^ 64
-product-below a b ha hb =
-    let ka : a ≤ 2 ^ 32 - 1 = omega arith in
-    let kb : b ≤ 2 ^ 32 - 1 = omega arith in
-    omega (arith, mul-le-mul ka kb)
-
 module _ {n at w rd a b : ℕ} (h : Register rd) (ha : Word a) (hb : Word b) where
   alu-sound : (k : Alu) → Sound (aluOf k rd a b) n at w
   alu-sound Add = checks h _
@@ -195,16 +192,9 @@ module _ {n : ℕ} where
 
 -- ---- branches
 
-by-test-of : {P : Type 0} (a b : ℕ) (t : Bool) → ltb a b ≡ t → (a < b → P) → (b ≤ a → P) → P
-by-test-of a b true e f g = f (ltb-true a b e)
-by-test-of a b false e f g = g (ltb-false a b e)
-
-by-test : {P : Type 0} (a b : ℕ) → (a < b → P) → (b ≤ a → P) → P
-by-test a b f g = by-test-of a b (ltb a b) refl f g
-
 -- a multiple of four of 18 bits stays one when it is extended
 extend-aligned : (x : ℕ) → extendOf 18 (x * 4) % 4 ≡ 0
-extend-aligned x = by-test (bitAnd (x * 4) (2 ^ 18 - 1)) (2 ^ 17) low high
+extend-aligned x = ⊎-elim low high (lt-or-ge (bitAnd (x * 4) (2 ^ 18 - 1)) (2 ^ 17))
   where
     same : bitAnd (x * 4) (2 ^ 18 - 1) ≡ x * 4 % 2 ^ 18
     same = mask-mod 18 (x * 4)
