@@ -155,15 +155,15 @@ module _ {n at w rd a b : ℕ} (h : Register rd) (ha : Word a) (hb : Word b) whe
 
 -- ---- accesses
 
-and-right : (p q : Bool) → p && q ≡ true → q ≡ true
-and-right true q e = e
-and-right false q e = absurd (false≢true e)
+pub both : (p q : Bool) → p && q ≡ true → (p ≡ true) × (q ≡ true)
+both true q e = (refl, e)
+both false q e = absurd (false≢true e)
 
 module _ {n : ℕ} where
   reach : (w a : ℕ) → reaches w a n ≡ true → Reach a w n a w
   unfolding reaches
   reach w a e =
-      record { inside = leb-true (a + w) n (and-right (eqb (a % w) 0) (leb (a + w) n) e); same-address = refl; same-width = refl }
+      record { inside = leb-true (a + w) n (both (eqb (a % w) 0) (leb (a + w) n) e .1); same-address = refl; same-width = refl }
 
   module _ {at w : ℕ} where
     loads : (t : Bool) (e : Effect) → (t ≡ true → Sound e n at w) → Sound (loadIf t e) n at w

@@ -1,7 +1,7 @@
 -- The states that refusal 17 lets pass, and that a sound effect leads from one to another.
 use Prim.Native.Nat.{ℕ, _%_, _^_, _<_}
 use mathlib.Core.Path.{_≡_, refl, sym, _∙_}
-use mathlib.Core.Bool.{Bool, true, false, cond, _&&_, false≢true}
+use mathlib.Core.Bool.{Bool, true, false, cond}
 use mathlib.Core.List.{List}
 use native.Mathlib.Omega.{arith}
 use lib.Dec.{eqb}
@@ -16,7 +16,7 @@ use Rattle.effect.specs.declared.effect.Special.{Special}
 use Rattle.effect.specs.declared.effect.Effect.{Effect}
 use Rattle.effect.specs.declared.effect.Effect.the-variants.{Exit, Advance, Write, Pair, Jump, Link, LoadByte, LoadHalf, LoadWord, LoadLinked, StoreByte, StoreHalf, StoreWord, StoreLinked, Control, Return}
 use Rattle.effect.specs.Sound.{Sound, Word, Aligned, Regular}
-use Rattle.effect.proofs.Sound.{slot-aligned}
+use Rattle.effect.proofs.Sound.{both, slot-aligned}
 use Rattle.machine.specs.declared.state.State.{State}
 use Rattle.machine.specs.State.{registerOf, specialOf, joinOf, isLawful, Words, Typed, Bytes}
 use Rattle.machine.specs.Apply.{special, putOf, jumpOf, advanceOf, pairOf, linkedOf, statusOf, controlledOf, loadedOf, appliedOf, applyOf}
@@ -31,10 +31,6 @@ pub record Registers (l : List ℕ) : Type 0 where
 pub record Valid (s : State) : Type 0 where
   pub registers : Registers (s .registers)
   pub special : Regular (specialOf s)
-
-both : (p q : Bool) → p && q ≡ true → (p ≡ true) × (q ≡ true)
-both true q e = (refl, e)
-both false q e = absurd (false≢true e)
 
 pub regular : (l : List ℕ) (c : Special) → Words c → isLawful (joinOf l c) ≡ true → Regular c
 unfolding isLawful
