@@ -1,2 +1,4 @@
 pub mod Valid
 pub mod Steps
+pub mod Runs
+pub mod Resumes

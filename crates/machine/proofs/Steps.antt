@@ -26,7 +26,7 @@ use Rattle.machine.specs.declared.state.State.{State}
 use Rattle.machine.specs.State.{registerOf, specialOf, joinOf, isLawful, refusalOf, longest, Typed, Bytes}
 use Rattle.machine.specs.Apply.{Machine, machine, Span, span, appliedOf, applyOf, storedOf, Outside}
 use Rattle.machine.specs.Step.{effectOf, readEffect, effectAt, readAccess, accessAt, exitOf, Outcome, outcome, tryOf, stepOf}
-use Rattle.machine.proofs.Valid.{Valid, valid, lawful, typed, put-zero, apply-valid}
+use Rattle.machine.proofs.Valid.{Valid, valid, lawful, typed, apply-valid, apply-zero}
 
 -- ---- the effect of a step is sound
 
@@ -70,7 +70,7 @@ fetch-operands m a w r i b l g e = read-operands w (rw l (load-lt 4 m a b)) i (s
 
 -- ---- an exit and a refusal leave everything
 
-apply-exit : (e : Effect) (s : State) (m : List ℕ) → (exitOf e ≡ 0 → ⊥) → applyOf e s m ≡ record { state = s; memory = m }
+pub apply-exit : (e : Effect) (s : State) (m : List ℕ) → (exitOf e ≡ 0 → ⊥) → applyOf e s m ≡ record { state = s; memory = m }
 apply-exit (Exit e) s m n = refl
 apply-exit Advance s m n = absurd (n refl)
 apply-exit (Write r v) s m n = absurd (n refl)
@@ -170,6 +170,11 @@ pub not-refused : (s : State) (n : ℕ) → refusalOf s n ≡ 0 → isLawful s �
 unfolding refusalOf
 not-refused s n e = lawful-of (ltb longest n) (isLawful s) e
 
+-- and the other way round
+pub refused-alike : (s t : State) (n : ℕ) → refusalOf s n ≡ 0 → isLawful t ≡ true → refusalOf t n ≡ 0
+unfolding refusalOf
+refused-alike s t n e l = let f = rw (not-refused s n e) at e in rw l f
+
 pub step-valid : (s : State) (m : List ℕ) → Valid s → Bytes m → Valid (stepOf s m .machine .state)
 unfolding tryOf
 step-valid s m v b =
@@ -179,7 +184,9 @@ step-valid s m v b =
 
 -- a state that 17 does not refuse leads to one that it does not refuse
 pub step-lawful : (s : State) (m : List ℕ) → Typed s → Bytes m → isLawful s ≡ true → isLawful (stepOf s m .machine .state) ≡ true
-step-lawful s m t b e = lawful (stepOf s m .machine .state) (step-valid s m (valid s t e) b)
+step-lawful s m t b e =
+    let v = step-valid s m (valid s t e) b in
+    lawful (stepOf s m .machine .state) (v .registers .zero-register) (v .special)
 
 -- registers stay below 2^32; a state that 17 refuses is left as it is
 typed-by : (s : State) (m : List ℕ) → Typed s → Bytes m → (u : Bool) → isLawful s ≡ u → Typed (stepOf s m .machine .state)
@@ -193,24 +200,6 @@ pub step-typed : (s : State) (m : List ℕ) → Typed s → Bytes m → Typed (s
 step-typed s m t b = typed-by s m t b (isLawful s) refl
 
 -- register 0 stays zero
-apply-zero : (e : Effect) (s : State) (m : List ℕ) → registerOf (applyOf e s m .state .registers) 0 ≡ registerOf (s .registers) 0
-apply-zero (Exit e) s m = refl
-apply-zero Advance s m = refl
-apply-zero (Write r v) s m = put-zero (s .registers) r v
-apply-zero (Pair h l) s m = refl
-apply-zero (Jump t) s m = refl
-apply-zero (Link r v t) s m = put-zero (s .registers) r v
-apply-zero (LoadByte r a x) s m = put-zero (s .registers) r _
-apply-zero (LoadHalf r a x) s m = put-zero (s .registers) r _
-apply-zero (LoadWord r a) s m = put-zero (s .registers) r _
-apply-zero (LoadLinked r a) s m = put-zero (s .registers) r _
-apply-zero (StoreByte a v) s m = refl
-apply-zero (StoreHalf a v) s m = refl
-apply-zero (StoreWord a v) s m = refl
-apply-zero (StoreLinked r a v) s m = put-zero (s .registers) r 1
-apply-zero (Control r v) s m = refl
-apply-zero (Return x) s m = refl
-
 pub step-zero : (s : State) (m : List ℕ) → registerOf (stepOf s m .machine .state .registers) 0 ≡ registerOf (s .registers) 0
 unfolding tryOf
 step-zero s m =

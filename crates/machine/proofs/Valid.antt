@@ -15,7 +15,7 @@ use Rattle.word.proofs.Memory.{load-lt, set-every}
 use Rattle.effect.specs.declared.effect.Special.{Special}
 use Rattle.effect.specs.declared.effect.Effect.{Effect}
 use Rattle.effect.specs.declared.effect.Effect.the-variants.{Exit, Advance, Write, Pair, Jump, Link, LoadByte, LoadHalf, LoadWord, LoadLinked, StoreByte, StoreHalf, StoreWord, StoreLinked, Control, Return}
-use Rattle.effect.specs.Sound.{Sound, Word, Aligned, Regular}
+use Rattle.effect.specs.Sound.{Sound, Performable, Word, Aligned, Regular}
 use Rattle.effect.proofs.Sound.{both, slot-aligned}
 use Rattle.machine.specs.declared.state.State.{State}
 use Rattle.machine.specs.State.{registerOf, specialOf, joinOf, isLawful, Words, Typed, Bytes}
@@ -60,10 +60,9 @@ valid s t e =
       special = regular (s .registers) (specialOf s) (t .special) e;
     }
 
-pub lawful : (s : State) → Valid s → isLawful s ≡ true
+pub lawful : (s : State) → registerOf (s .registers) 0 ≡ 0 → Regular (specialOf s) → isLawful s ≡ true
 unfolding isLawful
-lawful s v =
-    rw (v .registers .zero-register, v .special .pc .1, v .special .next-pc .1, lt-ltb (s .status) (2 ^ 13) (v .special .status))
+lawful s z r = rw (z, r .pc .1, r .next-pc .1, lt-ltb (s .status) (2 ^ 13) (r .status))
 
 words : (c : Special) → Regular c → Words c
 words c r =
@@ -164,7 +163,27 @@ unfolding loadedOf extendOf
 loaded-below k x true h = wrap-below 32 (signedOf k (x % 2 ^ k))
 loaded-below k x false h = h
 
-module _ {l : List ℕ} {c : Special} (m : List ℕ) (g : Registers l) (q : Regular c) (b : Bytes m) where
+-- the other registers need nothing of the 32 and of memory
+module _ (l : List ℕ) {c : Special} (m : List ℕ) (q : Regular c) where
+  applied-regular : {n at w : ℕ} (e : Effect) → Sound e n at w → Regular (specialOf (appliedOf e l c m .state))
+  applied-regular (Exit e) k = q
+  applied-regular Advance k = advance-regular q
+  applied-regular (Write r v) k = advance-regular q
+  applied-regular (Pair h o) k = pair-regular (advance-regular q) (k .keeps .0) (k .keeps .1)
+  applied-regular (Jump t) k = jump-regular q (k .keeps)
+  applied-regular (Link r v t) k = jump-regular q (k .keeps .1 .1)
+  applied-regular (LoadByte r a s) k = advance-regular q
+  applied-regular (LoadHalf r a s) k = advance-regular q
+  applied-regular (LoadWord r a) k = advance-regular q
+  applied-regular (LoadLinked r a) k = linked-regular (advance-regular q)
+  applied-regular (StoreByte a v) k = advance-regular q
+  applied-regular (StoreHalf a v) k = advance-regular q
+  applied-regular (StoreWord a v) k = advance-regular q
+  applied-regular (StoreLinked r a v) k = linked-regular (advance-regular q)
+  applied-regular (Control r v) k = control-regular (advance-regular q) r (k .keeps)
+  applied-regular (Return s) k = return-regular (advance-regular q) (k .keeps)
+
+module _ {l : List ℕ} (c : Special) (m : List ℕ) (g : Registers l) (b : Bytes m) where
   byte-below : (a : ℕ) → Word (loadOf 1 m a)
   byte-below a = omega (arith, load-lt 1 m a b)
 
@@ -174,33 +193,56 @@ module _ {l : List ℕ} {c : Special} (m : List ℕ) (g : Registers l) (q : Regu
   word-below : (a : ℕ) → Word (loadOf 4 m a)
   word-below a = omega (arith, load-lt 4 m a b)
 
-  -- the program counters move on, and a register is written
-  written : {v : ℕ} (r : ℕ) → Word v → Valid (joinOf (putOf l r v) (advanceOf c))
-  written {v} r h = record { registers = put-registers l r v g h; special = advance-regular q }
+  written : (r : ℕ) {v : ℕ} → Word v → Registers (putOf l r v)
+  written r {v} h = put-registers l r v g h
 
-  unwritten : {d : Special} → Regular d → Valid (joinOf l d)
-  unwritten h = record { registers = g; special = h }
+  applied-registers : {n at w : ℕ} (e : Effect) → Sound e n at w → Registers (appliedOf e l c m .state .registers)
+  applied-registers (Exit e) k = g
+  applied-registers Advance k = g
+  applied-registers (Write r v) k = written r (k .keeps .1)
+  applied-registers (Pair h o) k = g
+  applied-registers (Jump t) k = g
+  applied-registers (Link r v t) k = written r (k .keeps .1 .0)
+  applied-registers (LoadByte r a s) k = written r (loaded-below 8 (loadOf 1 m a) s (byte-below a))
+  applied-registers (LoadHalf r a s) k = written r (loaded-below 16 (loadOf 2 m a) s (half-below a))
+  applied-registers (LoadWord r a) k = written r (word-below a)
+  applied-registers (LoadLinked r a) k = written r (word-below a)
+  applied-registers (StoreByte a v) k = g
+  applied-registers (StoreHalf a v) k = g
+  applied-registers (StoreWord a v) k = g
+  applied-registers (StoreLinked r a v) k = written r (omega arith)
+  applied-registers (Control r v) k = g
+  applied-registers (Return s) k = g
 
-  applied-valid : {at w : ℕ} (e : Effect) → Sound e (length m) at w → Valid (appliedOf e l c m .state)
-  applied-valid (Exit e) k = unwritten q
-  applied-valid Advance k = unwritten (advance-regular q)
-  applied-valid (Write r v) k = written r (k .keeps .1)
-  applied-valid (Pair h o) k = unwritten (pair-regular (advance-regular q) (k .keeps .0) (k .keeps .1))
-  applied-valid (Jump t) k = unwritten (jump-regular q (k .keeps))
-  applied-valid (Link r v t) k =
-      record { registers = put-registers l r v g (k .keeps .1 .0); special = jump-regular q (k .keeps .1 .1) }
-  applied-valid (LoadByte r a s) k = written r (loaded-below 8 (loadOf 1 m a) s (byte-below a))
-  applied-valid (LoadHalf r a s) k = written r (loaded-below 16 (loadOf 2 m a) s (half-below a))
-  applied-valid (LoadWord r a) k = written r (word-below a)
-  applied-valid (LoadLinked r a) k =
-      record { registers = put-registers l r (loadOf 4 m a) g (word-below a); special = linked-regular (advance-regular q) }
-  applied-valid (StoreByte a v) k = unwritten (advance-regular q)
-  applied-valid (StoreHalf a v) k = unwritten (advance-regular q)
-  applied-valid (StoreWord a v) k = unwritten (advance-regular q)
-  applied-valid (StoreLinked r a v) k =
-      record { registers = put-registers l r 1 g (omega arith); special = linked-regular (advance-regular q) }
-  applied-valid (Control r v) k = unwritten (control-regular (advance-regular q) r (k .keeps))
-  applied-valid (Return s) k = unwritten (return-regular (advance-regular q) (k .keeps))
+pub apply-valid : {n at w : ℕ} (e : Effect) (s : State) (m : List ℕ) → Sound e n at w → Valid s → Bytes m → Valid (applyOf e s m .state)
+apply-valid e s m k v b =
+    record {
+      registers = applied-registers (specialOf s) m (v .registers) b e k;
+      special = applied-regular (s .registers) m (v .special) e k;
+    }
 
-pub apply-valid : {at w : ℕ} (e : Effect) (s : State) (m : List ℕ) → Sound e (length m) at w → Valid s → Bytes m → Valid (applyOf e s m .state)
-apply-valid e s m k v b = applied-valid m (v .registers) (v .special) b e k
+-- register 0 stays what it was
+pub apply-zero : (e : Effect) (s : State) (m : List ℕ) → registerOf (applyOf e s m .state .registers) 0 ≡ registerOf (s .registers) 0
+apply-zero (Exit e) s m = refl
+apply-zero Advance s m = refl
+apply-zero (Write r v) s m = put-zero (s .registers) r v
+apply-zero (Pair h l) s m = refl
+apply-zero (Jump t) s m = refl
+apply-zero (Link r v t) s m = put-zero (s .registers) r v
+apply-zero (LoadByte r a x) s m = put-zero (s .registers) r _
+apply-zero (LoadHalf r a x) s m = put-zero (s .registers) r _
+apply-zero (LoadWord r a) s m = put-zero (s .registers) r _
+apply-zero (LoadLinked r a) s m = put-zero (s .registers) r _
+apply-zero (StoreByte a v) s m = refl
+apply-zero (StoreHalf a v) s m = refl
+apply-zero (StoreWord a v) s m = refl
+apply-zero (StoreLinked r a v) s m = put-zero (s .registers) r 1
+apply-zero (Control r v) s m = refl
+apply-zero (Return x) s m = refl
+
+-- a sound effect leads from a lawful state to a lawful one, whatever the 32 registers and memory hold
+pub apply-lawful : (e : Effect) (s : State) (m : List ℕ) → Performable e (length m) → Words (specialOf s) → isLawful s ≡ true → isLawful (applyOf e s m .state) ≡ true
+apply-lawful e s m p w h =
+    lawful (applyOf e s m .state)
+    (apply-zero e s m ∙ first s h)
+    (applied-regular (s .registers) m (regular (s .registers) (specialOf s) w h) e (p .sound))

@@ -1,4 +1,6 @@
-// The machine: its state, and one step.
+// The machine: its state, one step, a run, and a resume.
 pub mod apply;
+pub mod resume;
+pub mod run;
 pub mod state;
 pub mod step;

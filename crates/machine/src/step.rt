@@ -5,6 +5,7 @@ ghost use Prim.Native.Nat.{_<_, _^_};
 ghost use lib.ListN.{length};
 ghost use Rattle.effect.specs.Sound.{Performable};
 ghost use Rattle.machine.specs.State.{registerOf, joinOf, isLawful};
+ghost use Rattle.machine.specs.Apply.{applyOf};
 ghost use Rattle.machine.specs.Step as Spec;
 use crate::state::State;
 use effect::effect::Effect;
@@ -32,9 +33,9 @@ fn register(registers: &[u32; 32], r: u32) -> u32
     bounded(registers[i])
 }
 
-// What the step of a state does; where the state is lawful, that can be carried out.
+// What the step of a state does; where the state is lawful, that can be carried out and leads to a lawful state.
 pub(crate) fn effect_at(c: Special, registers: &[u32; 32], memory: &[u8]) -> Effect
-    ensures { λ e. ⌜ (e ≡ Spec.effectAt (joinOf (now (registers .entry)) c) (now (memory .entry))) × (isLawful (joinOf (now (registers .entry)) c) ≡ true → Performable e (length (now (memory .entry)))) ⌝ }
+    ensures { λ e. ⌜ (e ≡ Spec.effectAt (joinOf (now (registers .entry)) c) (now (memory .entry))) × (isLawful (joinOf (now (registers .entry)) c) ≡ true → Performable e (length (now (memory .entry))) × (isLawful (applyOf e (joinOf (now (registers .entry)) c) (now (memory .entry)) .state) ≡ true)) ⌝ }
 {
     let at = c.pc as usize;
     let n = memory.len();

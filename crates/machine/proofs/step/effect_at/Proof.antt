@@ -10,7 +10,7 @@ use Rattle.effect.specs.Effect.{decisionOf}
 use Rattle.effect.proofs.Sound.{exits, decision-performable}
 use Rattle.machine.specs.declared.state.State.{State}
 use Rattle.machine.specs.State.{registerOf, specialOf, joinOf, Words}
-use Rattle.machine.proofs.Valid.{regular}
+use Rattle.machine.proofs.Valid.{regular, apply-lawful}
 use Rattle.machine.proofs.Steps.{fetch-outside, fetch-nothing, fetch-decided, fetch-operands}
 use borrow.Author.Needs.{needs}
 use Rattle.machine.proofs.step.effect_at.Statement.{statement}
@@ -20,7 +20,7 @@ returns : tie.Need-returns
 returns c =
     let a = c .before .before .before .args in (
       fetch-outside (joinOf (now (a .registers)) (a .c)) (now (a .memory)) (omega (arith, c .if1 .taken)),
-      λ _. record { at = 0; width = 0; sound = exits 50 refl refl },
+      λ l. (record { at = 0; width = 0; sound = exits 50 refl refl }, l),
     )
 
 register-requires : tie.Need-register-requires
@@ -45,7 +45,7 @@ returns-2 c =
     let test = read .before .before in
     let a = test .before .before .before .args in (
       fetch-nothing (joinOf (now (a .registers)) (a .c)) (now (a .memory)) (omega (arith, test .if1 .left)) _ _ (read .before .load32 .ensures) (read .read .ensures) (c .enum-told .given .1),
-      λ _. record { at = 0; width = 0; sound = exits 49 refl refl },
+      λ l. (record { at = 0; width = 0; sound = exits 49 refl refl }, l),
     )
 
 returns-3 : tie.Need-returns-3
@@ -63,7 +63,11 @@ returns-3 c =
     let o : Operands i = fetch-operands m _ _ _ i (λ x. known .before .shared-slice-known .given x .fits) (read .before .load32 .ensures) (read .read .ensures) (told .i .given .1) in
     let e : c .decide .result ≡ decisionOf i (registerOf (s .registers) (i .rs)) (registerOf (s .registers) (i .rt)) (specialOf s) (length m) = rw (c .decide .ensures, c .before .register2 .ensures .0, c .before .before .register .ensures .0) in (
       e ∙ fetch-decided s m (omega (arith, test .if1 .left)) _ _ (read .before .load32 .ensures) (read .read .ensures) i (told .i .given .1),
-      λ l. decision-performable i o (c .before .before .register .ensures .1) (c .before .register2 .ensures .1) (regular (now (a .registers)) (a .c) w l) (length m) _ (c .decide .ensures),
+      λ l.
+      let p = decision-performable i o (c .before .before .register .ensures .1) (c .before .register2 .ensures .1) (regular (now (a .registers)) (a .c) w l) (length m) _ (c .decide .ensures) in (
+        p,
+        apply-lawful _ s m p w l,
+      ),
     )
 
 pub effect-at-spec : {M : Type 1} → statement M

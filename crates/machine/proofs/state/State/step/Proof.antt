@@ -11,7 +11,7 @@ returns c =
 
 apply-requires : tie.Need-apply-requires
 apply-requires c κs =
-    c .before .before .effect-at .ensures .1 (rw (c .before .before .before .before .before .special .ensures) (not-refused (c .before .before .before .before .before .before .before .before .before .before .args .self) _ (sym (c .before .before .before .before .before .before .before .before .refusal .ensures) ∙ c .before .before .before .before .before .before .before .if1 .left)))
+    c .before .before .effect-at .ensures .1 (rw (c .before .before .before .before .before .special .ensures) (not-refused (c .before .before .before .before .before .before .before .before .before .before .args .self) _ (sym (c .before .before .before .before .before .before .before .before .refusal .ensures) ∙ c .before .before .before .before .before .before .before .if1 .left))) .0
 
 returns-2 : tie.Need-returns-2
 returns-2 c =
