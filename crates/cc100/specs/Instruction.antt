@@ -5,11 +5,11 @@ use Rattle.isa.specs.declared.reading.Reading.the-variants.{Legal, NoInstructio
 use Rattle.isa.specs.declared.writing.Written.{Written}
 use Rattle.isa.specs.Reading.{made}
 use Rattle.isa.specs.Writing.{writeOf, writtenNumber, writtenWord}
-use Rattle.cc100.specs.declared.number.Numbered.{Numbered}
-use Rattle.cc100.specs.declared.number.Numbered.the-variants.{Known, Unknown}
+use Rattle.number.specs.declared.Numbered.{Numbered}
+use Rattle.number.specs.declared.Numbered.the-variants.{Known, Unknown}
 use Rattle.cc100.specs.declared.instruction.ReadAnswer.{ReadAnswer}
 use Rattle.cc100.specs.declared.instruction.WriteAnswer.{WriteAnswer}
-use Rattle.cc100.specs.Number.{numberOf}
+use Rattle.number.specs.Number.{numberOf}
 
 abbrev pub readNumbers : ℕ → ℕ → ℕ → ℕ → ℕ → ℕ → ReadAnswer
 readNumbers k s t d h v = record { kind = k; rs = s; rt = t; rd = d; shift = h; value = v }

@@ -1,2 +1,2 @@
-pub mod Number
 pub mod Instruction
+pub mod Runner

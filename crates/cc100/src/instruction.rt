@@ -1,12 +1,12 @@
 // Words read and written by number.
 ghost use mathlib.Core.Path.{_≡_};
 ghost use Rattle.isa.specs.Reading.{readOf};
-ghost use Rattle.cc100.specs.Number.{kindOf};
+ghost use Rattle.number.specs.Number.{kindOf};
 ghost use Rattle.cc100.specs.Instruction.{readAnswer, writeAnswer, writeNumbered};
-use crate::number::Numbered;
 use isa::kind::Instruction;
 use isa::reading::Reading;
 use isa::writing::Written;
+use number::Numbered;
 
 // struct cc100_instruction; kind 0: no instruction.
 #[repr(C)]
@@ -33,7 +33,7 @@ fn read_answer(r: Reading) -> ReadAnswer
         Reading::Legal(i) => {
             let kind = i.kind;
             ReadAnswer {
-                kind: crate::number::number_of(kind),
+                kind: number::number_of(kind),
                 rs: i.rs,
                 rt: i.rt,
                 rd: i.rd,
@@ -82,7 +82,7 @@ pub extern "C" fn cc100_write(
 ) -> WriteAnswer
     ensures { λ a. ⌜ a ≡ writeNumbered (kindOf kind) rs rt rd shift value ⌝ }
 {
-    match crate::number::kind_of(kind) {
+    match number::kind_of(kind) {
         Numbered::Known(k) => {
             let i = Instruction {
                 kind: k,

@@ -1,3 +1,3 @@
 // The calls that a C program makes.
 pub mod instruction;
-pub mod number;
+pub mod runner;

@@ -13,9 +13,10 @@ use Rattle.effect.specs.declared.effect.Effect.{Effect}
 use Rattle.machine.specs.declared.state.State.{State}
 use Rattle.machine.specs.State.{registerOf, specialOf, joinOf, isLawful, refusalOf, Typed, Bytes}
 use Rattle.machine.specs.Apply.{Machine, machine, appliedOf, applyOf}
-use Rattle.machine.specs.Step.{effectAt, exitOf, outcome, stepOf}
-use Rattle.machine.specs.Run.{Course, course, halted, later, repeatOf, runOf}
-use Rattle.machine.proofs.Steps.{step-done, step-lawful, step-typed, step-bytes, step-length, step-zero, exit-leaves, not-refused, refused-alike, apply-exit}
+use Rattle.machine.specs.Step.{effectAt, exitOf, Outcome, outcome, stepOf}
+use Rattle.machine.specs.Run.{Course, course, halted, later, repeatOf, runOf, thenOf, afterOf}
+use Rattle.machine.proofs.Steps.{step-refused, step-done, step-valid, step-lawful, step-typed, step-bytes, step-length, step-zero, exit-leaves, not-refused, refused-alike, apply-exit}
+use Rattle.machine.proofs.Valid.{Valid, valid, valid-lawful}
 
 -- ---- a turn of the loop, by what the code finds
 
@@ -64,3 +65,210 @@ module _ (s : State) (m : List ℕ) (b : ℕ) where
   pub run-repeats : refusalOf s (length m) ≡ 0 → repeatOf b s m ≡ runOf s m b
   unfolding runOf
   run-repeats z = rw z
+
+-- ---- the repetition
+
+-- by whether a number is 0
+module _ (P : Course → Type 0) (k : ℕ) {x y : Course} where
+  chosen : (t : Bool) → eqb k 0 ≡ t → (k ≡ 0 → P x) → ((k ≡ 0 → ⊥) → P y) → P (cond t x y)
+  chosen true e p q = p (eqb-true k 0 e)
+  chosen false e p q = q (eqb-false k 0 e)
+
+  by-number : (k ≡ 0 → P x) → ((k ≡ 0 → ⊥) → P y) → P (cond (eqb k 0) x y)
+  by-number p q = chosen (eqb k 0) refl p q
+
+-- what every step keeps, a run keeps
+module _ (P : State → List ℕ → Type 0) (keep : (s : State) (m : List ℕ) → P s m → P (stepOf s m .machine .state) (stepOf s m .machine .memory)) where
+  repeat-keeps : (n : ℕ) (s : State) (m : List ℕ) → P s m → P (repeatOf n s m .machine .state) (repeatOf n s m .machine .memory)
+  unfolding repeatOf
+  repeat-keeps zero s m p = p
+  repeat-keeps (suc n) s m p =
+      by-number (λ r. P (r .machine .state) (r .machine .memory)) (stepOf s m .number)
+      (λ _. repeat-keeps n (stepOf s m .machine .state) (stepOf s m .machine .memory) (keep s m p))
+      (λ _. keep s m p)
+
+  pub run-keeps : (n : ℕ) (s : State) (m : List ℕ) → P s m → P (runOf s m n .machine .state) (runOf s m n .machine .memory)
+  unfolding runOf
+  run-keeps n s m p =
+      by-number (λ r. P (r .machine .state) (r .machine .memory)) (refusalOf s (length m)) (λ _. repeat-keeps n s m p) (λ _. p)
+
+-- the total: the whole budget where the run is still running, and less than it where a step exited
+abbrev Total : ℕ → Course → Type 0
+Total n r = ((r .number ≡ 0) × (r .steps ≡ n)) ⊎ ((r .number ≡ 0 → ⊥) × (r .steps < n))
+
+running : (n : ℕ) (r : Course) → Total n r → r .number ≡ 0 → r .steps ≡ n
+running n r (inl (e, h)) z = h
+running n r (inr (e, h)) z = absurd (e z)
+
+exited : (n : ℕ) (r : Course) → Total n r → (r .number ≡ 0 → ⊥) → r .steps < n
+exited n r (inl (e, h)) z = absurd (z e)
+exited n r (inr (e, h)) z = h
+
+within : (n : ℕ) (r : Course) → Total n r → r .steps ≤ n
+within n r (inl (e, h)) = omega (arith, h)
+within n r (inr (e, h)) = omega (arith, h)
+
+counted : (n : ℕ) (r : Course) → Total n r → Total (suc n) (later 1 r)
+counted n r (inl (e, h)) = inl (e, omega arith)
+counted n r (inr (e, h)) = inr (e, omega arith)
+
+repeat-total : (n : ℕ) (s : State) (m : List ℕ) → Total n (repeatOf n s m)
+unfolding repeatOf
+repeat-total zero s m = inl (refl, refl)
+repeat-total (suc n) s m =
+    by-number (Total (suc n)) (stepOf s m .number)
+    (λ _. counted n (repeatOf n (stepOf s m .machine .state) (stepOf s m .machine .memory)) (repeat-total n (stepOf s m .machine .state) (stepOf s m .machine .memory)))
+    (λ e. inr (e, omega arith))
+
+-- where a run exits, the step of the state reached exits so
+abbrev Ends : Course → Type 0
+Ends r = (r .number ≡ 0 → ⊥) → stepOf (r .machine .state) (r .machine .memory) .number ≡ r .number
+
+repeat-ends : (n : ℕ) (s : State) (m : List ℕ) → Ends (repeatOf n s m)
+unfolding repeatOf
+repeat-ends zero s m = λ e. absurd (e refl)
+repeat-ends (suc n) s m =
+    by-number Ends (stepOf s m .number)
+    (λ _. repeat-ends n (stepOf s m .machine .state) (stepOf s m .machine .memory))
+    (λ e _. rw (exit-leaves s m e))
+
+-- a repetition of a + b is one of a, then one of b
+abbrev onward : Course → ℕ → Course
+onward r b = cond (eqb (r .number) 0) (later (r .steps) (repeatOf b (r .machine .state) (r .machine .memory))) r
+
+later-zero : (r : Course) → later 0 r ≡ r
+later-zero r = let z : 0 + r .steps ≡ r .steps = omega arith in rw z
+
+later-onward : (r : Course) (b : ℕ) → later 1 (onward r b) ≡ onward (later 1 r) b
+later-onward r b = split (eqb (r .number) 0) (repeatOf b (r .machine .state) (r .machine .memory))
+  where
+    split : (t : Bool) (x : Course) → later 1 (cond t (later (r .steps) x) r) ≡ cond t (later (1 + r .steps) x) (later 1 r)
+    split true x = let p : 1 + (r .steps + x .steps) ≡ 1 + r .steps + x .steps = omega arith in rw p
+    split false x = refl
+
+sum-step : (t : Bool) (o : Outcome) → eqb (o .number) 0 ≡ t → (x r : Course) (b : ℕ) → x ≡ onward r b → cond t (later 1 x) (halted o) ≡ onward (cond t (later 1 r) (halted o)) b
+sum-step true o e x r b h = rw h (later-onward r b)
+sum-step false o e x r b h = rw e
+
+repeat-sum : (a b : ℕ) (s : State) (m : List ℕ) → repeatOf (a + b) s m ≡ onward (repeatOf a s m) b
+unfolding repeatOf
+repeat-sum zero b s m = let z : 0 + b ≡ b = omega arith in rw z (sym (later-zero (repeatOf b s m)))
+repeat-sum (suc a) b s m =
+    let z : suc a + b ≡ suc (a + b) = omega arith in
+    let t = stepOf s m .machine in
+    rw z (sum-step _ (stepOf s m) refl _ (repeatOf a (t .state) (t .memory)) b (repeat-sum a b (t .state) (t .memory)))
+
+repeat-larger : (a b : ℕ) (s : State) (m : List ℕ) → (repeatOf a s m .number ≡ 0 → ⊥) → a ≤ b → repeatOf b s m ≡ repeatOf a s m
+repeat-larger a b s m e h =
+    let z : b ≡ a + (b - a) = omega arith in
+    ap (λ n. repeatOf n s m) z ∙ repeat-sum a (b - a) s m ∙ rw (ne-eqb _ _ e)
+
+-- ---- the run
+
+module _ (s : State) (m : List ℕ) where
+  -- by whether it is refused
+  by-refusal : (P : Course → Type 0) (n : ℕ) → (refusalOf s (length m) ≡ 0 → P (repeatOf n s m)) → ((k : ℕ) → k ≡ refusalOf s (length m) → (k ≡ 0 → ⊥) → P (course k 0 s m)) → P (runOf s m n)
+  unfolding runOf
+  by-refusal P n p q = by-number P (refusalOf s (length m)) p (q (refusalOf s (length m)) refl)
+
+  -- budget 0 completes none and says still running
+  pub run-zero : refusalOf s (length m) ≡ 0 → runOf s m 0 ≡ course 0 0 s m
+  unfolding repeatOf
+  run-zero z = sym (run-repeats s m 0 z)
+
+  -- still running: the budget is spent
+  pub run-running : (n : ℕ) → runOf s m n .number ≡ 0 → runOf s m n .steps ≡ n
+  run-running n =
+      by-refusal (λ r. r .number ≡ 0 → r .steps ≡ n) n
+      (λ _. running n (repeatOf n s m) (repeat-total n s m))
+      (λ k q e z. absurd (e z))
+
+  -- the exiting step isn't counted
+  pub run-exits : (n : ℕ) → refusalOf s (length m) ≡ 0 → (runOf s m n .number ≡ 0 → ⊥) → runOf s m n .steps < n
+  run-exits n z =
+      by-refusal (λ r. (r .number ≡ 0 → ⊥) → r .steps < n) n
+      (λ _. exited n (repeatOf n s m) (repeat-total n s m))
+      (λ k q e _. absurd (e (q ∙ z)))
+
+  -- never more than the budget
+  pub run-within : (n : ℕ) → runOf s m n .steps ≤ n
+  run-within n =
+      by-refusal (λ r. r .steps ≤ n) n (λ _. within n (repeatOf n s m) (repeat-total n s m)) (λ k q e. omega arith)
+
+  -- an exit's or a refusal's number is that of the step of the state reached
+  pub run-number : (n : ℕ) → (runOf s m n .number ≡ 0 → ⊥) → stepOf (runOf s m n .machine .state) (runOf s m n .machine .memory) .number ≡ runOf s m n .number
+  run-number n =
+      by-refusal Ends n (λ _. repeat-ends n s m) (λ k q e _. rw (← step-refused s m k q e))
+
+  -- a run that exits is the same under every larger budget
+  pub run-larger : (a b : ℕ) → (runOf s m a .number ≡ 0 → ⊥) → a ≤ b → runOf s m b ≡ runOf s m a
+  run-larger a b e h =
+      by-refusal (λ r. (r .number ≡ 0 → ⊥) → runOf s m b ≡ r) a
+      (λ z n. sym (run-repeats s m b z) ∙ repeat-larger a b s m n h)
+      (λ k q n _. sym (run-refused s m b k q n))
+      e
+
+-- ---- what a run keeps
+
+pub run-length : (n : ℕ) (s : State) (m : List ℕ) → length (runOf s m n .machine .memory) ≡ length m
+run-length n s m = run-keeps (λ _ x. length x ≡ length m) (λ t x e. step-length t x ∙ e) n s m refl
+
+-- register 0 stays zero
+pub run-register : (n : ℕ) (s : State) (m : List ℕ) → registerOf (runOf s m n .machine .state .registers) 0 ≡ registerOf (s .registers) 0
+run-register n s m =
+    run-keeps (λ t _. registerOf (t .registers) 0 ≡ registerOf (s .registers) 0) (λ t x e. step-zero t x ∙ e) n s m refl
+
+pub run-bytes : (n : ℕ) (s : State) (m : List ℕ) → Bytes m → Bytes (runOf s m n .machine .memory)
+run-bytes n s m b = run-keeps (λ _ x. Bytes x) (λ t x. step-bytes t x) n s m b
+
+module _ (n : ℕ) (s : State) (m : List ℕ) (b : Bytes m) where
+  pub run-typed : Typed s → Typed (runOf s m n .machine .state)
+  run-typed t =
+      run-keeps (λ x y. Typed x × Bytes y) (λ x y p. (step-typed x y (p .0) (p .1), step-bytes x y (p .1))) n s m (t, b) .0
+
+  pub run-valid : Valid s → Valid (runOf s m n .machine .state)
+  run-valid v =
+      run-keeps (λ x y. Valid x × Bytes y) (λ x y p. (step-valid x y (p .0) (p .1), step-bytes x y (p .1))) n s m (v, b) .0
+
+  -- a state that 17 does not refuse leads to one that it does not refuse
+  pub run-lawful : Typed s → isLawful s ≡ true → isLawful (runOf s m n .machine .state) ≡ true
+  run-lawful t e = valid-lawful (runOf s m n .machine .state) (run-valid (valid s t e))
+
+-- ---- one run after another, and a run after a step
+
+module _ (s : State) (m : List ℕ) (t : Typed s) (b : Bytes m) where
+  unrefused : (n : ℕ) → refusalOf s (length m) ≡ 0 → refusalOf (runOf s m n .machine .state) (length (runOf s m n .machine .memory)) ≡ 0
+  unrefused n z =
+      rw (run-length n s m) (refused-alike s (runOf s m n .machine .state) (length m) z (run-lawful n s m b t (not-refused s (length m) z)))
+
+  onward-then : (r : Course) (n : ℕ) → refusalOf (r .machine .state) (length (r .machine .memory)) ≡ 0 → onward r n ≡ thenOf r n
+  unfolding thenOf
+  onward-then r n z = rw (run-repeats (r .machine .state) (r .machine .memory) n z)
+
+  then-refused : (k n : ℕ) → (k ≡ 0 → ⊥) → course k 0 s m ≡ thenOf (course k 0 s m) n
+  unfolding thenOf
+  then-refused k n e = rw (ne-eqb k 0 e)
+
+  -- a run of a + n is a run of a, then one of n
+  pub run-sum : (a n : ℕ) → runOf s m (a + n) ≡ thenOf (runOf s m a) n
+  run-sum a n =
+      by-refusal s m (λ r. runOf s m (a + n) ≡ thenOf r n) a
+      (λ z. sym (run-repeats s m (a + n) z) ∙ repeat-sum a n s m ∙ onward-then (repeatOf a s m) n (rw (run-repeats s m a z) (unrefused a z)))
+      (λ k q e. sym (run-refused s m (a + n) k q e) ∙ then-refused k n e)
+
+  step-unrefused : refusalOf s (length m) ≡ 0 → refusalOf (stepOf s m .machine .state) (length (stepOf s m .machine .memory)) ≡ 0
+  step-unrefused z =
+      rw (step-length s m) (refused-alike s (stepOf s m .machine .state) (length m) z (step-lawful s m t b (not-refused s (length m) z)))
+
+  repeat-more : (n : ℕ) → refusalOf s (length m) ≡ 0 → repeatOf (suc n) s m ≡ afterOf (stepOf s m) n
+  unfolding repeatOf afterOf
+  repeat-more n z = rw (run-repeats (stepOf s m .machine .state) (stepOf s m .machine .memory) n (step-unrefused z))
+
+  after-refused : (k n : ℕ) → k ≡ refusalOf s (length m) → (k ≡ 0 → ⊥) → course k 0 s m ≡ afterOf (stepOf s m) n
+  unfolding afterOf
+  after-refused k n q e = rw (← step-refused s m k q e, ne-eqb k 0 e)
+
+  -- one more step: a run of n + 1 is a step, then a run of n
+  pub run-more : (n : ℕ) → runOf s m (suc n) ≡ afterOf (stepOf s m) n
+  run-more n =
+      by-refusal s m (λ r. r ≡ afterOf (stepOf s m) n) (suc n) (repeat-more n) (λ k q e. after-refused k n q e)

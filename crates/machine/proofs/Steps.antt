@@ -26,7 +26,7 @@ use Rattle.machine.specs.declared.state.State.{State}
 use Rattle.machine.specs.State.{registerOf, specialOf, joinOf, isLawful, refusalOf, longest, Typed, Bytes}
 use Rattle.machine.specs.Apply.{Machine, machine, Span, span, appliedOf, applyOf, storedOf, Outside}
 use Rattle.machine.specs.Step.{effectOf, readEffect, effectAt, readAccess, accessAt, exitOf, Outcome, outcome, tryOf, stepOf}
-use Rattle.machine.proofs.Valid.{Valid, valid, lawful, typed, apply-valid, apply-zero}
+use Rattle.machine.proofs.Valid.{Valid, valid, valid-lawful, typed, apply-valid, apply-zero}
 
 -- ---- the effect of a step is sound
 
@@ -184,9 +184,7 @@ step-valid s m v b =
 
 -- a state that 17 does not refuse leads to one that it does not refuse
 pub step-lawful : (s : State) (m : List ℕ) → Typed s → Bytes m → isLawful s ≡ true → isLawful (stepOf s m .machine .state) ≡ true
-step-lawful s m t b e =
-    let v = step-valid s m (valid s t e) b in
-    lawful (stepOf s m .machine .state) (v .registers .zero-register) (v .special)
+step-lawful s m t b e = valid-lawful (stepOf s m .machine .state) (step-valid s m (valid s t e) b)
 
 -- registers stay below 2^32; a state that 17 refuses is left as it is
 typed-by : (s : State) (m : List ℕ) → Typed s → Bytes m → (u : Bool) → isLawful s ≡ u → Typed (stepOf s m .machine .state)

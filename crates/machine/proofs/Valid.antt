@@ -60,9 +60,12 @@ valid s t e =
       special = regular (s .registers) (specialOf s) (t .special) e;
     }
 
-pub lawful : (s : State) → registerOf (s .registers) 0 ≡ 0 → Regular (specialOf s) → isLawful s ≡ true
+lawful : (s : State) → registerOf (s .registers) 0 ≡ 0 → Regular (specialOf s) → isLawful s ≡ true
 unfolding isLawful
 lawful s z r = rw (z, r .pc .1, r .next-pc .1, lt-ltb (s .status) (2 ^ 13) (r .status))
+
+pub valid-lawful : (s : State) → Valid s → isLawful s ≡ true
+valid-lawful s v = lawful s (v .registers .zero-register) (v .special)
 
 words : (c : Special) → Regular c → Words c
 words c r =
@@ -128,7 +131,7 @@ module _ {c : Special} (g : Regular c) where
         epc = g .epc;
       }
 
-  advance-regular : Regular (advanceOf c)
+  pub advance-regular : Regular (advanceOf c)
   advance-regular = jump-regular (slot-aligned (g .next-pc))
 
   -- all but the program counters may be others
@@ -138,7 +141,7 @@ module _ {c : Special} (g : Regular c) where
   pair-regular : {h l : ℕ} → Word h → Word l → Regular (pairOf c h l)
   pair-regular h l = others-regular h l (g .bad) (g .status) (g .cause) (g .epc)
 
-  linked-regular : {k : Bool} → Regular (linkedOf c k)
+  pub linked-regular : {k : Bool} → Regular (linkedOf c k)
   linked-regular = others-regular (g .hi) (g .lo) (g .bad) (g .status) (g .cause) (g .epc)
 
   return-regular : {s : ℕ} → s < 2 ^ 13 → Regular (linkedOf (statusOf c s) false)

@@ -38,3 +38,12 @@ repeatOf (suc n) s m =
 unfoldable pub runOf : State → List ℕ → ℕ → Course
 runOf s m budget =
     cond (eqb (refusalOf s (length m)) 0) (repeatOf budget s m) (halted (outcome (refusalOf s (length m)) s m))
+
+-- a run, and where it is still running one more from the state and memory that it reached
+unfoldable pub thenOf : Course → ℕ → Course
+thenOf r budget =
+    cond (eqb (r .number) 0) (later (r .steps) (runOf (r .machine .state) (r .machine .memory) budget)) r
+
+-- a step, and where it completes a run
+unfoldable pub afterOf : Outcome → ℕ → Course
+afterOf o budget = cond (eqb (o .number) 0) (later 1 (runOf (o .machine .state) (o .machine .memory) budget)) (halted o)

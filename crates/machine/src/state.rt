@@ -18,11 +18,11 @@ pub struct State {
 }
 
 // Memory too long.
-const MEMORY: u32 = 1;
+pub const MEMORY: u32 = 1;
 // A state that the rules of 17 do not allow.
-const STATE: u32 = 17;
+pub const STATE: u32 = 17;
 // The longest memory, in bytes.
-const LONGEST: usize = 16777216;
+pub const LONGEST: usize = 16777216;
 
 impl State {
     fn is_lawful(self) -> bool
@@ -33,7 +33,7 @@ impl State {
     }
 
     // The refusals that step, run and resume try first; 0 where neither is due.
-    pub(crate) fn refusal(self, length: usize) -> u32
+    pub fn refusal(self, length: usize) -> u32
         ensures { λ r. ⌜ r ≡ Spec.refusalOf self length ⌝ }
     {
         if LONGEST < length {

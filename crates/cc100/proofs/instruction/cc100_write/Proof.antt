@@ -1,6 +1,6 @@
 use Rattle.cc100.specs.Instruction.{writeAnswer}
-use Rattle.cc100.specs.Number.{kindOf}
-use Rattle.cc100.specs.declared.number.Numbered.the-variants.{Known, Unknown}
+use Rattle.number.specs.Number.{kindOf}
+use Rattle.number.specs.declared.Numbered.the-variants.{Known, Unknown}
 use mathlib.Core.Path.{_≡_, ap, sym, _∙_}
 use borrow.Author.Needs.{needs}
 use Rattle.cc100.proofs.instruction.cc100_write.Statement.{statement}

@@ -64,10 +64,10 @@ returns-3 c =
     let e : c .decide .result ≡ decisionOf i (registerOf (s .registers) (i .rs)) (registerOf (s .registers) (i .rt)) (specialOf s) (length m) = rw (c .decide .ensures, c .before .register2 .ensures .0, c .before .before .register .ensures .0) in (
       e ∙ fetch-decided s m (omega (arith, test .if1 .left)) _ _ (read .before .load32 .ensures) (read .read .ensures) i (told .i .given .1),
       λ l.
-      let p = decision-performable i o (c .before .before .register .ensures .1) (c .before .register2 .ensures .1) (regular (now (a .registers)) (a .c) w l) (length m) _ (c .decide .ensures) in (
-        p,
-        apply-lawful _ s m p w l,
-      ),
+          let p = decision-performable i o (c .before .before .register .ensures .1) (c .before .register2 .ensures .1) (regular (now (a .registers)) (a .c) w l) (length m) _ (c .decide .ensures) in (
+            p,
+            apply-lawful _ s m p w l,
+          ),
     )
 
 pub effect-at-spec : {M : Type 1} → statement M

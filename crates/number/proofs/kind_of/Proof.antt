@@ -1,8 +1,8 @@
 use mathlib.Core.List.{[], _∷_}
-use Rattle.cc100.specs.Number.{kindOf}
-use Rattle.cc100.proofs.Numbers.{unknown}
-use Rattle.cc100.proofs.number.kind_of.Statement.{statement}
-use Rattle.cc100.proofs.number.kind_of.Tie as tie
+use Rattle.number.specs.Number.{kindOf}
+use Rattle.number.proofs.Numbers.{unknown}
+use Rattle.number.proofs.kind_of.Statement.{statement}
+use Rattle.number.proofs.kind_of.Tie as tie
 
 returns-73 : tie.Need-returns-73
 returns-73 c = unknown (72 ∷ 71 ∷ 70 ∷ 69 ∷ 68 ∷ 67 ∷ 66 ∷ 65 ∷ 64 ∷ 63 ∷ 62 ∷ 61 ∷ 60 ∷ 59 ∷ 58 ∷ 57 ∷ 56 ∷ 55 ∷ 54 ∷ 53 ∷ 52 ∷ 51 ∷ 50 ∷ 49 ∷ 48 ∷ 47 ∷ 46 ∷ 45 ∷ 44 ∷ 43 ∷ 42 ∷ 41 ∷ 40 ∷ 39 ∷ 38 ∷ 37 ∷ 36 ∷ 35 ∷ 34 ∷ 33 ∷ 32 ∷ 31 ∷ 30 ∷ 29 ∷ 28 ∷ 27 ∷ 26 ∷ 25 ∷ 24 ∷ 23 ∷ 22 ∷ 21 ∷ 20 ∷ 19 ∷ 18 ∷ 17 ∷ 16 ∷ 15 ∷ 14 ∷ 13 ∷ 12 ∷ 11 ∷ 10 ∷ 9 ∷ 8 ∷ 7 ∷ 6 ∷ 5 ∷ 4 ∷ 3 ∷ 2 ∷ 1 ∷ []) tt (c .before .args .n) (c .match .rest)

@@ -1,7 +1,7 @@
 // Instructions by number: 1 to 72, in the order of document 004, section 1.2.
 ghost use mathlib.Core.Path.{_≡_};
 ghost use Rattle.isa.specs.Table.{aluRow, immediateRow, shiftRow, multiplyRow, accessRow, branchRow, trapRow, systemRow};
-ghost use Rattle.cc100.specs.Number.{numberOf, kindOf};
+ghost use Rattle.number.specs.Number.{numberOf, kindOf};
 use isa::kind::Access;
 use isa::kind::Alu;
 use isa::kind::Branch;

@@ -8,8 +8,8 @@ use Rattle.isa.specs.declared.kind.Kind.{Kind}
 use Rattle.isa.specs.Table.{instructions}
 use Rattle.isa.proofs.Codes.{every, both}
 use Rattle.isa.proofs.Arms.{Avoids, member, not-member}
-use Rattle.cc100.specs.declared.number.Numbered.the-variants.{Unknown}
-use Rattle.cc100.specs.Number.{numberOf, numbered, kindOf}
+use Rattle.number.specs.declared.Numbered.the-variants.{Unknown}
+use Rattle.number.specs.Number.{numberOf, numbered, kindOf}
 
 none-of : (l : List ℕ) (n : ℕ) → Avoids n l → (ks : List Kind) → T (every (λ k. member (numberOf k) l) ks) → numbered ks n ≡ Unknown
 none-of l n a [] t = refl

@@ -5,8 +5,8 @@ use mathlib.Core.List.{List, [], _∷_}
 use lib.Dec.{eqb}
 use Rattle.isa.specs.declared.kind.Kind.{Kind}
 use Rattle.isa.specs.Table.{rowOf, instructions}
-use Rattle.cc100.specs.declared.number.Numbered.{Numbered}
-use Rattle.cc100.specs.declared.number.Numbered.the-variants.{Known, Unknown}
+use Rattle.number.specs.declared.Numbered.{Numbered}
+use Rattle.number.specs.declared.Numbered.the-variants.{Known, Unknown}
 
 abbrev pub numberOf : Kind → ℕ
 numberOf k = rowOf k .number

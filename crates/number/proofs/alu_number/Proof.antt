@@ -1,5 +1,5 @@
-use Rattle.cc100.proofs.number.alu_number.Statement.{statement}
-use Rattle.cc100.proofs.number.alu_number.Tie as tie
+use Rattle.number.proofs.alu_number.Statement.{statement}
+use Rattle.number.proofs.alu_number.Tie as tie
 
 pub alu-number-spec : {M : Type 1} → statement M
 alu-number-spec = tie.close (tie.spec
