@@ -14,7 +14,7 @@ pub struct RanAnswer {
 }
 
 // The refusal that is due, memory's before the state's, or 0 and the state that the bytes stand for.
-fn open(bytes: &[u8], length: usize) -> Decoded
+fn read_state(bytes: &[u8], length: usize) -> Decoded
     ensures { λ r. ⌜ (r .number ≡ Spec.callRefusal (now (bytes .entry)) length) × (r .number ≡ 0 → (r .state ≡ stateOf (now (bytes .entry)))) ⌝ }
 {
     let d = codec::decode::decode(bytes);
@@ -38,14 +38,14 @@ fn open(bytes: &[u8], length: usize) -> Decoded
 pub extern "C" fn cc100_step(state: &mut [u8], memory: &mut [u8]) -> u32
     ensures { λ r. ⌜ Spec.answer r (now (state .exit)) (now (memory .exit)) ≡ Spec.stepCall (now (state .entry)) (now (memory .entry)) ⌝ }
 {
-    let opened = open(state, memory.len());
-    if opened.number != 0 {
-        return opened.number;
+    let read = read_state(state, memory.len());
+    if read.number != 0 {
+        return read.number;
     }
-    let s = opened.state;
+    let s = read.state;
     let r = s.step(memory);
-    let t = r.state;
-    codec::encode::encode(t, state);
+    let after = r.state;
+    codec::encode::encode(after, state);
     r.number
 }
 
@@ -53,17 +53,17 @@ pub extern "C" fn cc100_step(state: &mut [u8], memory: &mut [u8]) -> u32
 pub extern "C" fn cc100_run(state: &mut [u8], memory: &mut [u8], budget: u32) -> RanAnswer
     ensures { λ r. ⌜ Spec.runAnswer (r .number) (r .steps) (now (state .exit)) (now (memory .exit)) ≡ Spec.runCall (now (state .entry)) (now (memory .entry)) budget ⌝ }
 {
-    let opened = open(state, memory.len());
-    if opened.number != 0 {
+    let read = read_state(state, memory.len());
+    if read.number != 0 {
         return RanAnswer {
-            number: opened.number,
+            number: read.number,
             steps: 0,
         };
     }
-    let s = opened.state;
+    let s = read.state;
     let r = s.run(memory, budget);
-    let t = r.state;
-    codec::encode::encode(t, state);
+    let reached = r.state;
+    codec::encode::encode(reached, state);
     RanAnswer {
         number: r.number,
         steps: r.steps,
@@ -74,13 +74,13 @@ pub extern "C" fn cc100_run(state: &mut [u8], memory: &mut [u8], budget: u32) ->
 pub extern "C" fn cc100_resume(state: &mut [u8], memory: &[u8]) -> u32
     ensures { λ r. ⌜ Spec.answer r (now (state .exit)) (now (memory .entry)) ≡ Spec.resumeCall (now (state .entry)) (now (memory .entry)) ⌝ }
 {
-    let opened = open(state, memory.len());
-    if opened.number != 0 {
-        return opened.number;
+    let read = read_state(state, memory.len());
+    if read.number != 0 {
+        return read.number;
     }
-    let s = opened.state;
+    let s = read.state;
     let r = s.resume(memory);
-    let t = r.state;
-    codec::encode::encode(t, state);
+    let resumed = r.state;
+    codec::encode::encode(resumed, state);
     r.number
 }

@@ -18,6 +18,10 @@ use Rattle.machine.specs.Run.{Course, course, halted, later, repeatOf, r
 use Rattle.machine.proofs.Steps.{step-refused, step-done, step-valid, step-lawful, step-typed, step-bytes, step-length, step-zero, exit-leaves, not-refused, refused-alike, apply-exit}
 use Rattle.machine.proofs.Valid.{Valid, valid, valid-lawful}
 
+-- no step more
+halted-later : (done : ℕ) (o : Outcome) → record { number = o .number; steps = done; machine = o .machine } ≡ later done (halted o)
+halted-later done o = let z : done + 0 ≡ done = omega arith in rw z
+
 -- ---- a turn of the loop, by what the code finds
 
 module _ (s : State) (m : List ℕ) (z : refusalOf s (length m) ≡ 0) (e : Effect) (given : e ≡ effectAt s m) where
@@ -37,7 +41,7 @@ module _ (s : State) (m : List ℕ) (z : refusalOf s (length m) ≡ 0) (e : Effe
 
     pub turn-exits : (exitOf e ≡ 0 → ⊥) → course (exitOf e) done s m ≡ later done (repeatOf (b - done) s m)
     unfolding repeatOf
-    turn-exits n = let z : done + 0 ≡ done = omega arith in rw (left, ← step-exits n, ne-eqb _ _ n, z)
+    turn-exits n = rw (left, ← step-exits n, ne-eqb _ _ n) (halted-later done (outcome (exitOf e) s m))
 
     pub turn-completes : (l : List ℕ) (d : Special) (x : List ℕ) → machine l d x ≡ applyOf e s m → exitOf e ≡ 0 → later (done + 1) (repeatOf (b - (done + 1)) (joinOf l d) x) ≡ later done (repeatOf (b - done) s m)
     unfolding repeatOf
@@ -54,7 +58,7 @@ turns-begin s m b =
 
 pub turns-done : (s : State) (m : List ℕ) (done b : ℕ) → b ≤ done → course 0 done s m ≡ later done (repeatOf (b - done) s m)
 unfolding repeatOf
-turns-done s m done b h = let z : b - done ≡ 0 = omega arith in let y : done + 0 ≡ done = omega arith in rw (z, y)
+turns-done s m done b h = let z : b - done ≡ 0 = omega arith in rw z (halted-later done (outcome 0 s m))
 
 -- the run, by what the code finds
 module _ (s : State) (m : List ℕ) (b : ℕ) where
