@@ -1,11 +1,15 @@
 # make: proves and builds everything that the sample needs, and lists the sample module.
-# make test: the test command: formatting, proofs, must-fail edits, programs.
+# make test: the test command: formatting, the archive and its host tests, proofs, must-fail edits, programs.
+# make archive: the calls for C, as a library to link with.
+# make host: the example host program.
+# make host-test: the calls from C and the example host, tested.
 # make bench: speed beside plain C.
 CC = cc
 CFLAGS = -O2 -Wall -Wextra -Werror -Iinclude -Ibench
 ARCHIVE = target/staticlib/libcc100.a
+PLAIN = bench/plain_read.c bench/plain_step.c
 
-.PHONY: sample test bench archive
+.PHONY: sample test bench archive host host-test
 
 sample:
 	@mkdir -p target
@@ -15,16 +19,28 @@ sample:
 
 test:
 	rt fmt --check
+	@$(MAKE) --no-print-directory host-test
 	rt ci
 
 archive:
 	@mkdir -p target
 	@rt staticlib cc100 > target/archive.log 2>&1 || { cat target/archive.log; exit 1; }
 
-bench: archive
+# Made anew where anything that it is made from changed; another archive (ARCHIVE=FILE) is taken as it is.
+target/staticlib/libcc100.a: archive
+
+host: $(ARCHIVE)
+	@mkdir -p target/host
+	@$(CC) $(CFLAGS) -o target/host/host host/host.c $(ARCHIVE)
+	@echo "target/host/host is built; try: target/host/host samples/m.module"
+
+host-test: host
+	@$(CC) $(CFLAGS) -o target/host/test host/test_*.c $(PLAIN) $(ARCHIVE)
+	@target/host/test target/host/host
+
+bench: $(ARCHIVE)
 	@mkdir -p target/bench
-	@rt check steps > target/bench.log 2>&1 || { cat target/bench.log; exit 1; }
-	@$(CC) $(CFLAGS) -o target/bench/read bench/read.c bench/plain_read.c $(ARCHIVE)
-	@$(CC) $(CFLAGS) -o target/bench/step bench/step.c bench/plain_step.c
+	@$(CC) $(CFLAGS) -o target/bench/read bench/read.c $(PLAIN) $(ARCHIVE)
+	@$(CC) $(CFLAGS) -o target/bench/run bench/run.c $(PLAIN) $(ARCHIVE)
 	@target/bench/read
-	@target/bench/step target/bin/steps
+	@target/bench/run

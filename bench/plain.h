@@ -13,6 +13,10 @@ struct plain_state {
     uint32_t r[32], hi, lo, pc, next_pc, ll, bad, status, cause, epc;
 };
 
+/* A state from its 164 bytes, and back. */
+struct plain_state plain_state_of(const uint8_t *bytes);
+void plain_state_to(const struct plain_state *s, uint8_t *bytes);
+
 /* One step. Gives 0, an exit (40 to 52) or a refusal (1 or 17); where it is not 0, state and memory stay as they were. */
 uint32_t plain_step(struct plain_state *s, uint8_t *memory, size_t length);
 

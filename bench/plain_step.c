@@ -1,5 +1,7 @@
 /* An interpreter as one would write it in C for speed: a switch on the opcode and the function, the work in the arm, and for each format a
    test of the bits that must be zero. An arm tests for its exit before it writes anything. */
+#include <string.h>
+
 #include "plain.h"
 
 /* plain_step and plain_run each get their own copy of the interpreter, so that it works on the program counters where they are. */
@@ -458,6 +460,26 @@ INLINE uint32_t refused(const struct plain_state *s, size_t length)
     if (length > LONGEST)
         return MEMORY_TOO_LONG;
     return s->r[0] || ((s->pc | s->next_pc) & 3) || (s->status & ~STATUS_BITS) || s->ll > 1 ? BAD_STATE : 0;
+}
+
+#define WORDS (CC100_STATE_LENGTH / 4)
+
+struct plain_state plain_state_of(const uint8_t *bytes)
+{
+    uint32_t words[WORDS];
+    struct plain_state s;
+    for (size_t i = 0; i < WORDS; i++)
+        words[i] = word_at(bytes + 4 * i);
+    memcpy(&s, words, sizeof s);
+    return s;
+}
+
+void plain_state_to(const struct plain_state *s, uint8_t *bytes)
+{
+    uint32_t words[WORDS];
+    memcpy(words, s, sizeof words);
+    for (size_t i = 0; i < WORDS; i++)
+        put_word(bytes + 4 * i, words[i]);
 }
 
 uint32_t plain_step(struct plain_state *s, uint8_t *memory, size_t length)

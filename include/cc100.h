@@ -1,33 +1,122 @@
-/* Delkhvatsi: the calls of the CC100-C runner. Link with libcc100.a. */
+/* Delkhvatsi: the calls of the CC100-C runner. Link with libcc100.a.
+
+   Each call returns on every input, reads and writes only what it was lent, allocates nothing and keeps nothing between calls. It asks
+   two things of its caller:
+
+   - a pointer and the length beside it are those of bytes that the caller owns; the pointer is not NULL, also where the length is 0;
+   - state and memory do not overlap.
+
+   A call that refuses leaves every byte as it was. */
 #ifndef CC100_H
 #define CC100_H
 
+#include <stddef.h>
 #include <stdint.h>
 
 #ifdef __cplusplus
 extern "C" {
 #endif
 
-/* Refusals, as documents 01 and 02 number them. */
+/* Numbers that calls answer: done, refusals as documents 01 and 02 number them, and exits. */
+#define CC100_DONE 0u /* a step completed, a run still running, a resume given, a word written */
+
+#define CC100_REFUSED_MEMORY 1u       /* memory is longer than CC100_LONGEST_MEMORY */
+#define CC100_REFUSED_STATE 17u       /* no lawful state: see below */
 #define CC100_REFUSED_INSTRUCTION 18u /* an instruction to be written has a field too wide or not legal */
+#define CC100_REFUSED_RESUME 19u      /* a resume where the step does not end in 40, 46, 47 or 48 */
+
+#define CC100_EXIT_INTEGER_OVERFLOW 40u       /* the sum or difference of ADD, ADDI or SUB does not fit */
+#define CC100_EXIT_ADDRESS 41u                /* JR or JALR to an address that is not a multiple of 4 */
+#define CC100_EXIT_LOAD 42u                   /* a load, or LL, that is not aligned or outside memory */
+#define CC100_EXIT_STORE 43u                  /* a store, or SC, that is not aligned or outside memory */
+#define CC100_EXIT_PRIVILEGED_DATA 44u        /* MFC0 or MTC0 in user mode */
+#define CC100_EXIT_PRIVILEGED_INSTRUCTION 45u /* RFE in user mode */
+#define CC100_EXIT_SYSTEM_CALL 46u            /* SYSCALL */
+#define CC100_EXIT_BREAKPOINT 47u             /* BREAK */
+#define CC100_EXIT_TRAP 48u                   /* a trap whose condition holds */
+#define CC100_EXIT_NO_INSTRUCTION 49u         /* the word at PC is none of the 72 */
+#define CC100_EXIT_FETCH 50u                  /* the word at PC is not inside memory */
+#define CC100_EXIT_DEBUG_BREAK 51u            /* BREAK with code 15 */
+#define CC100_EXIT_STOP_CORES 52u             /* SYSCALL with code 15 in kernel mode */
+
+/* Memory is bytes from address 0 up, words little-endian. */
+#define CC100_LONGEST_MEMORY 16777216u
+
+/* A state is 41 little-endian words in 164 bytes; these are their places. */
+#define CC100_STATE_LENGTH 164u
+#define CC100_REGISTER(r) (4u * (r)) /* registers 0 to 31 */
+#define CC100_HI 128u
+#define CC100_LO 132u
+#define CC100_PC 136u             /* the address of the present instruction */
+#define CC100_NEXT_PC 140u        /* the address of the following one */
+#define CC100_LL 144u             /* the LL bit as 0 or 1 */
+#define CC100_BAD_ADDRESS 148u    /* control register 8 */
+#define CC100_STATUS 152u         /* control register 12 */
+#define CC100_CAUSE 156u          /* control register 13 */
+#define CC100_RETURN_ADDRESS 160u /* control register 14 */
+
+/* The bit of the status that is the current mode: 1 user, 0 kernel. */
+#define CC100_STATUS_USER 8u
+
+/* CC100_REFUSED_STATE is the answer for state bytes that are not 164, for an LL word above 1, for register 0 not zero, for PC or next PC
+   not a multiple of 4, and for a status bit above 12 set. */
+
+/* The word in four bytes of a state or of memory. */
+static inline uint32_t cc100_get_word(const uint8_t *bytes)
+{
+    return bytes[0] | (uint32_t)bytes[1] << 8 | (uint32_t)bytes[2] << 16 | (uint32_t)bytes[3] << 24;
+}
+
+/* Puts a word into four bytes of a state or of memory. */
+static inline void cc100_set_word(uint8_t *bytes, uint32_t word)
+{
+    bytes[0] = (uint8_t)word;
+    bytes[1] = (uint8_t)(word >> 8);
+    bytes[2] = (uint8_t)(word >> 16);
+    bytes[3] = (uint8_t)(word >> 24);
+}
+
+/* How a run ended: `number` is CC100_DONE, an exit or a refusal, `steps` the steps completed. */
+typedef struct cc100_ran {
+    uint32_t number, steps;
+} cc100_ran;
 
 /* An instruction. `kind` is its number in docs/INSTRUCTIONS.md, 1 to 72, or 0: no instruction.
    Fields that a kind does not have are 0. `value` is the raw constant, offset, jump index, code or stype. */
-struct cc100_instruction {
+typedef struct cc100_instruction {
     uint32_t kind, rs, rt, rd, shift, value;
-};
+} cc100_instruction;
 
-/* A word that was written: `number` is 0, or CC100_REFUSED_INSTRUCTION, and then `word` is 0. */
-struct cc100_written {
+/* A word that was written: `number` is CC100_DONE, or CC100_REFUSED_INSTRUCTION, and then `word` is 0. */
+typedef struct cc100_written {
     uint32_t number, word;
-};
+} cc100_written;
+
+/* Takes one step: runs the instruction at PC.
+   Refuses, in this order: CC100_REFUSED_MEMORY, CC100_REFUSED_STATE.
+   Answers CC100_DONE, and leaves the next state and the memory as the instruction leaves it; or the exit, 40 to 52, that the step ends in,
+   and leaves state and memory as they were. */
+uint32_t cc100_step(uint8_t *state, size_t state_length, uint8_t *memory, size_t memory_length);
+
+/* Takes steps until `budget` of them are completed or one ends in an exit.
+   Refuses, in this order: CC100_REFUSED_MEMORY, CC100_REFUSED_STATE; `steps` is then 0. It does so with budget 0 too.
+   Answers CC100_DONE where the budget is spent and the module still running, also where the step after that would exit; or the exit, 40
+   to 52. `steps` are the steps completed, without the one that exits. Leaves the state and memory that those steps reached: after an exit,
+   PC is at the instruction that exits. */
+cc100_ran cc100_run(uint8_t *state, size_t state_length, uint8_t *memory, size_t memory_length, uint32_t budget);
+
+/* Moves a state past the instruction whose step ends in CC100_EXIT_INTEGER_OVERFLOW, _SYSTEM_CALL, _BREAKPOINT or _TRAP.
+   Refuses, in this order: CC100_REFUSED_MEMORY, CC100_REFUSED_STATE, CC100_REFUSED_RESUME.
+   Answers CC100_DONE, and leaves PC at the former next PC, next PC four more (wrapping at 2^32), the LL word 0 and all else as it was.
+   Memory is only read. */
+uint32_t cc100_resume(uint8_t *state, size_t state_length, const uint8_t *memory, size_t memory_length);
 
 /* Reads a word. Any word is taken; one that is no instruction gives all zeros. */
-struct cc100_instruction cc100_read(uint32_t word);
+cc100_instruction cc100_read(uint32_t word);
 
 /* Writes the word of an instruction. Refuses, by CC100_REFUSED_INSTRUCTION, a kind that is not 1 to 72, a field that does not fit its
    place in the word, a control register other than 8, 12, 13 and 14, and a field that is not 0 where the kind does not have it. */
-struct cc100_written cc100_write(uint32_t kind, uint32_t rs, uint32_t rt, uint32_t rd, uint32_t shift, uint32_t value);
+cc100_written cc100_write(uint32_t kind, uint32_t rs, uint32_t rt, uint32_t rd, uint32_t shift, uint32_t value);
 
 #ifdef __cplusplus
 }

@@ -1,0 +1,172 @@
+/* An example of a host program: runs a report module and hands it figures.
+
+       host MODULE
+
+   The convention between this host and its modules: SYSCALL with code 0 asks for the next figure. The host puts the figure's place in the
+   data area, a multiple of 4, into register 8 and the figure into register 9, and resumes the module. When a module asks and no figures
+   are left, its report is complete, and the host prints the words of the data area.
+
+   Anything else ends the module. An Integer Overflow, a Breakpoint and a Trap could be resumed, but a report is read for its figures, and
+   one that went on past an overflow would lack one without saying so: this host names the exit and its address and stops.
+
+   The exit status is 0 where the report is complete, 1 where it is not, and 2 where there is no module to run. */
+#include <errno.h>
+#include <inttypes.h>
+#include <stdbool.h>
+#include <stdio.h>
+#include <string.h>
+
+#include "cc100.h"
+
+#define MEMORY_LENGTH 196608u
+#define CODE_BASE 0x10000u
+#define SMALLEST_CODE 16u
+#define LARGEST_CODE 65536u
+#define DATA_BASE 0x20000u
+#define DATA_LENGTH 64u
+#define BUDGET 1000000u /* steps, for a module's whole run */
+
+#define NEXT_FIGURE 0u /* the code of the SYSCALL that asks for a figure */
+#define PLACE_REGISTER 8
+#define FIGURE_REGISTER 9
+
+/* Prices in cents. */
+static const uint32_t figures[] = {1250, 980, 4999, 315};
+#define FIGURES (sizeof figures / sizeof figures[0])
+
+struct machine {
+    uint8_t state[CC100_STATE_LENGTH], memory[MEMORY_LENGTH];
+};
+
+static uint32_t state_word(const struct machine *m, uint32_t place)
+{
+    return cc100_get_word(m->state + place);
+}
+
+/* Gives the module's length, or 0 where there is none to run, which is said. */
+static size_t load(struct machine *m, const char *path)
+{
+    FILE *file = fopen(path, "rb");
+    if (!file) {
+        fprintf(stderr, "host: cannot open %s: %s\n", path, strerror(errno));
+        return 0;
+    }
+    size_t length = fread(m->memory + CODE_BASE, 1, LARGEST_CODE, file);
+    bool longer = fgetc(file) != EOF, failed = ferror(file);
+    fclose(file);
+    if (failed)
+        fprintf(stderr, "host: cannot read %s\n", path);
+    else if (length == 0)
+        fprintf(stderr, "host: %s is empty\n", path);
+    else if (longer)
+        fprintf(stderr, "host: %s is longer than %u bytes\n", path, LARGEST_CODE);
+    else if (length < SMALLEST_CODE || (length & (length - 1)))
+        fprintf(stderr, "host: %s has %zu bytes, and a module's length is a power of two from %u to %u\n", path, length, SMALLEST_CODE,
+                LARGEST_CODE);
+    else
+        return length;
+    return 0;
+}
+
+/* In user mode at the first word, registers 26 and 27 as the guards of a module need them. All else is 0. */
+static void start(struct machine *m)
+{
+    memset(m->state, 0, sizeof m->state);
+    cc100_set_word(m->state + CC100_PC, CODE_BASE);
+    cc100_set_word(m->state + CC100_NEXT_PC, CODE_BASE + 4);
+    cc100_set_word(m->state + CC100_REGISTER(26), DATA_BASE);
+    cc100_set_word(m->state + CC100_REGISTER(27), CODE_BASE);
+    cc100_set_word(m->state + CC100_STATUS, CC100_STATUS_USER);
+}
+
+static const char *in_words(uint32_t number)
+{
+    switch (number) {
+    case CC100_DONE: return "still running, and its budget is spent";
+    case CC100_REFUSED_MEMORY: return "refused, memory is too long";
+    case CC100_REFUSED_STATE: return "refused, not a lawful state";
+    case CC100_REFUSED_RESUME: return "refused, nothing to resume from";
+    case CC100_EXIT_INTEGER_OVERFLOW: return "Integer Overflow";
+    case CC100_EXIT_ADDRESS: return "Address, a jump to an address that is not a multiple of 4";
+    case CC100_EXIT_LOAD: return "Load, not aligned or outside memory";
+    case CC100_EXIT_STORE: return "Store, not aligned or outside memory";
+    case CC100_EXIT_PRIVILEGED_DATA: return "Privileged Data in user mode";
+    case CC100_EXIT_PRIVILEGED_INSTRUCTION: return "Privileged Instruction in user mode";
+    case CC100_EXIT_SYSTEM_CALL: return "System Call that this host does not know";
+    case CC100_EXIT_BREAKPOINT: return "Breakpoint";
+    case CC100_EXIT_TRAP: return "Trap";
+    case CC100_EXIT_NO_INSTRUCTION: return "no instruction";
+    case CC100_EXIT_FETCH: return "fetch outside memory";
+    case CC100_EXIT_DEBUG_BREAK: return "BREAK with code 15";
+    case CC100_EXIT_STOP_CORES: return "SYSCALL with code 15 in kernel mode";
+    default: return "a number that this host does not know";
+    }
+}
+
+/* Whether a run ended at a SYSCALL that asks for a figure. The word at PC says which: an exit leaves PC at its instruction. */
+static bool asks_for_figure(const struct machine *m, uint32_t number)
+{
+    if (number != CC100_EXIT_SYSTEM_CALL)
+        return false;
+    return cc100_read(cc100_get_word(m->memory + state_word(m, CC100_PC))).value == NEXT_FIGURE;
+}
+
+/* Gives resume's number. */
+static uint32_t give_figure(struct machine *m, uint32_t index)
+{
+    uint32_t place = 4 * index;
+    printf("asks for a figure, gets %" PRIu32 " for place %" PRIu32 "\n", figures[index], place);
+    cc100_set_word(m->state + CC100_REGISTER(PLACE_REGISTER), place);
+    cc100_set_word(m->state + CC100_REGISTER(FIGURE_REGISTER), figures[index]);
+    return cc100_resume(m->state, sizeof m->state, m->memory, sizeof m->memory);
+}
+
+static void print_data(const struct machine *m)
+{
+    printf("data:");
+    for (uint32_t i = 0; i < DATA_LENGTH; i += 4)
+        printf(" %" PRIu32, cc100_get_word(m->memory + DATA_BASE + i));
+    printf("\n");
+}
+
+/* Runs the module to its end. Gives the exit status. */
+static int run(struct machine *m)
+{
+    uint32_t steps = 0, given = 0;
+    for (;;) {
+        cc100_ran ran = cc100_run(m->state, sizeof m->state, m->memory, sizeof m->memory, BUDGET - steps);
+        steps += ran.steps;
+        printf("after %" PRIu32 " steps, at 0x%" PRIx32 ": ", steps, state_word(m, CC100_PC));
+        if (!asks_for_figure(m, ran.number)) {
+            printf("%s; the host stops it\n", in_words(ran.number));
+            return 1;
+        }
+        if (given == FIGURES) {
+            printf("asks for a figure, none are left; the report is complete\n");
+            print_data(m);
+            return 0;
+        }
+        uint32_t number = give_figure(m, given++);
+        if (number != CC100_DONE) {
+            printf("resume: %s; the host stops it\n", in_words(number));
+            return 1;
+        }
+    }
+}
+
+int main(int count, char **arguments)
+{
+    static struct machine m;
+    if (count != 2) {
+        fprintf(stderr, "usage: host MODULE\n");
+        return 2;
+    }
+    size_t length = load(&m, arguments[1]);
+    if (length == 0)
+        return 2;
+    /* The checker's place (cc100_check_placed, in a later release). Until then a module runs unchecked: it can reach all of m.memory,
+       its own code too, and can end in any of the exits. */
+    printf("%zu words of code at 0x%x, %u bytes of data at 0x%x\n", length / 4, CODE_BASE, DATA_LENGTH, DATA_BASE);
+    start(&m);
+    return run(&m);
+}
