@@ -16,40 +16,47 @@ use Rattle.machine.proofs.Steps.{step-refused, exit-leaves}
 use Rattle.machine.proofs.Runs.{run-refused}
 use Rattle.machine.proofs.Resumes.{resume-refused, resume-leaves}
 use Rattle.codec.specs.declared.decode.Decoded.{Decoded}
-use Rattle.codec.specs.Bytes.{isState, stateOf, bytesOf, decodedOf, encoded, encodedOf}
+use Rattle.codec.specs.Bytes.{isState, stateOf, bytesOf, decoded, decodedOf, encoded, encodedOf}
 use Rattle.codec.proofs.RoundTrip.{state-length, bytes-state}
-use Rattle.cc100.specs.Runner.{callRefusal, Answer, answer, answered, stepCall, resumeCall, runAnswer, runAnswered, runCall}
+use Rattle.cc100.specs.Calls.{callRefusal, readOf, Answer, answer, answered, stepCall, resumeCall, runAnswer, runAnswered, runCall}
 
--- ---- the refusal, by what the code finds
+-- ---- what the calls read, by what the code finds
 
-decoded-by : (b : List ℕ) (t : Bool) → isState b ≡ t → decodedOf b .number ≡ 0 → (isState b ≡ true) × (decodedOf b .state ≡ stateOf b)
-unfolding decodedOf
-decoded-by b true e z = (e, rw e)
-decoded-by b false e z = let y = rw e at z in let x : ⊥ = omega (arith, y) in absurd x
+module _ (b : List ℕ) where
+  state-by : (t : Bool) → isState b ≡ t → decodedOf b .number ≡ 0 → isState b ≡ true
+  unfolding decodedOf
+  state-by true e z = e
+  state-by false e z = let y = rw e at z in let x : ⊥ = omega (arith, y) in absurd x
 
-refused-by : (b : List ℕ) (t : Bool) → isState b ≡ t → (decodedOf b .number ≡ 0 → ⊥) → isState b ≡ false
-unfolding decodedOf
-refused-by b true e n = absurd (n (rw e))
-refused-by b false e n = e
+  no-state-by : (t : Bool) → isState b ≡ t → (decodedOf b .number ≡ 0 → ⊥) → isState b ≡ false
+  unfolding decodedOf
+  no-state-by true e n = absurd (n (rw e))
+  no-state-by false e n = e
+
+  decoded-state : isState b ≡ true → decodedOf b .state ≡ stateOf b
+  unfolding decodedOf
+  decoded-state e = rw e
 
 module _ (b : List ℕ) (n : ℕ) (d : Decoded) (given : d ≡ decodedOf b) where
-  pub open-state : d .number ≡ 0 → d .state ≡ stateOf b
-  open-state z = rw given (decoded-by b (isState b) refl (rw given at z) .1)
-
-  pub open-refusal : d .number ≡ 0 → (k : ℕ) → k ≡ refusalOf (d .state) n → k ≡ callRefusal b n
-  unfolding callRefusal
-  open-refusal z k e = rw (e, open-state z, decoded-by b (isState b) refl (rw given at z) .0)
+  read-as : (k : ℕ) → k ≡ callRefusal b n → decoded k (d .state) ≡ readOf b n
+  read-as k e = rw (e, given)
 
   not-state : (d .number ≡ 0 → ⊥) → isState b ≡ false
-  not-state e = refused-by b (isState b) refl (rw given at e)
+  not-state e = no-state-by b (isState b) refl (rw given at e)
 
-  pub open-too-long : (d .number ≡ 0 → ⊥) → longest < n → 1 ≡ callRefusal b n
+  pub read-state : d .number ≡ 0 → (k : ℕ) → k ≡ refusalOf (d .state) n → decoded k (d .state) ≡ readOf b n
   unfolding callRefusal
-  open-too-long e h = rw (not-state e, lt-ltb longest n h)
+  read-state z k e =
+      let t : isState b ≡ true = state-by b (isState b) refl (rw given at z) in
+      read-as k (rw (e, given, decoded-state b t, t))
 
-  pub open-not-state : (d .number ≡ 0 → ⊥) → n ≤ longest → d .number ≡ callRefusal b n
+  pub read-too-long : (d .number ≡ 0 → ⊥) → longest < n → decoded 1 (d .state) ≡ readOf b n
+  unfolding callRefusal
+  read-too-long e h = read-as 1 (rw (not-state e, lt-ltb longest n h))
+
+  pub read-no-state : (d .number ≡ 0 → ⊥) → n ≤ longest → d ≡ readOf b n
   unfolding callRefusal decodedOf
-  open-not-state e h = rw (given, not-state e, le-ltb longest n h)
+  read-no-state e h = read-as (d .number) (rw (given, not-state e, le-ltb longest n h))
 
 -- a call that is not refused is lent the bytes of a state
 served-by : (b : List ℕ) (n : ℕ) (t u : Bool) → isState b ≡ t → ltb longest n ≡ u → callRefusal b n ≡ 0 → isState b ≡ true
@@ -68,34 +75,43 @@ encode-bytes s b x k e h = ap (λ o. o .bytes) h ∙ rw (state-length b e)
 
 -- ---- the calls, by what the code finds
 
-module _ (b m : List ℕ) where
-  pub step-call-refused : (k : ℕ) → k ≡ callRefusal b (length m) → (k ≡ 0 → ⊥) → answer k b m ≡ stepCall b m
+module _ (b m : List ℕ) (r : Decoded) (given : r ≡ readOf b (length m)) where
+  number : r .number ≡ callRefusal b (length m)
+  number = ap (λ x. x .number) given
+
+  pub step-call-refused : (r .number ≡ 0 → ⊥) → answer (r .number) b m ≡ stepCall b m
   unfolding stepCall
-  step-call-refused k e n = rw (← e, ne-eqb k 0 n)
+  step-call-refused n = rw (← number, ne-eqb (r .number) 0 n)
 
-  pub resume-call-refused : (k : ℕ) → k ≡ callRefusal b (length m) → (k ≡ 0 → ⊥) → answer k b m ≡ resumeCall b m
+  pub resume-call-refused : (r .number ≡ 0 → ⊥) → answer (r .number) b m ≡ resumeCall b m
   unfolding resumeCall
-  resume-call-refused k e n = rw (← e, ne-eqb k 0 n)
+  resume-call-refused n = rw (← number, ne-eqb (r .number) 0 n)
 
-  pub run-call-refused : (budget k : ℕ) → k ≡ callRefusal b (length m) → (k ≡ 0 → ⊥) → runAnswer k 0 b m ≡ runCall b m budget
+  pub run-call-refused : (budget : ℕ) → (r .number ≡ 0 → ⊥) → runAnswer (r .number) 0 b m ≡ runCall b m budget
   unfolding runCall
-  run-call-refused budget k e n = rw (← e, ne-eqb k 0 n)
+  run-call-refused budget n = rw (← number, ne-eqb (r .number) 0 n)
 
-  module _ (z : callRefusal b (length m) ≡ 0) (s : State) (given : s ≡ stateOf b) (t : State) (x : List ℕ) (k : ℕ) (left : encoded k x ≡ encodedOf t b) where
+  module _ (z : r .number ≡ 0) (t : State) (x : List ℕ) (k : ℕ) (left : encoded k x ≡ encodedOf t b) where
+    served : callRefusal b (length m) ≡ 0
+    served = sym number ∙ z
+
+    lent : r .state ≡ stateOf b
+    lent = ap (λ x. x .state) given ∙ decoded-state b (call-state b (length m) served)
+
     bytes : x ≡ bytesOf t
-    bytes = encode-bytes t b x k (call-state b (length m) z) left
+    bytes = encode-bytes t b x k (call-state b (length m) served) left
 
-    pub step-call-done : (o : ℕ) (y : List ℕ) → outcome o t y ≡ stepOf s m → answer o x y ≡ stepCall b m
+    pub step-call-done : (o : ℕ) (y : List ℕ) → outcome o t y ≡ stepOf (r .state) m → answer o x y ≡ stepCall b m
     unfolding stepCall
-    step-call-done o y h = rw (z, bytes) (ap answered h ∙ rw given)
+    step-call-done o y h = rw (served, bytes) (ap answered h ∙ rw lent)
 
-    pub resume-call-done : (o : ℕ) → outcome o t m ≡ resumeOf s m → answer o x m ≡ resumeCall b m
+    pub resume-call-done : (o : ℕ) → outcome o t m ≡ resumeOf (r .state) m → answer o x m ≡ resumeCall b m
     unfolding resumeCall
-    resume-call-done o h = rw (z, bytes) (ap answered h ∙ rw given)
+    resume-call-done o h = rw (served, bytes) (ap answered h ∙ rw lent)
 
-    pub run-call-done : (o n : ℕ) (y : List ℕ) (budget : ℕ) → course o n t y ≡ runOf s m budget → runAnswer o n x y ≡ runCall b m budget
+    pub run-call-done : (o n : ℕ) (y : List ℕ) (budget : ℕ) → course o n t y ≡ runOf (r .state) m budget → runAnswer o n x y ≡ runCall b m budget
     unfolding runCall
-    run-call-done o n y budget h = rw (z, bytes) (ap runAnswered h ∙ rw given)
+    run-call-done o n y budget h = rw (served, bytes) (ap runAnswered h ∙ rw lent)
 
 -- ---- the calls do what the machine does, refused or not
 
@@ -143,14 +159,14 @@ module _ (b m : List ℕ) (g : Bytes b) where
 
   step-by : (t : Bool) → isState b ≡ t → Leaves (stepCall b m)
   step-by true e = rw (step-call b m g e) (left-as (stepOf (stateOf b) m) e (exit-leaves (stateOf b) m))
-  step-by false e = rw (← step-call-refused b m (callRefusal b (length m)) refl (bytes-refused e)) (λ _. (refl, refl))
+  step-by false e = rw (← step-call-refused b m (readOf b (length m)) refl (bytes-refused e)) (λ _. (refl, refl))
 
   pub step-call-leaves : (stepCall b m .number ≡ 0 → ⊥) → (stepCall b m .state ≡ b) × (stepCall b m .memory ≡ m)
   step-call-leaves = step-by (isState b) refl
 
   resume-by : (t : Bool) → isState b ≡ t → Leaves (resumeCall b m)
   resume-by true e = rw (resume-call b m g e) (left-as (resumeOf (stateOf b) m) e (resume-leaves (stateOf b) m))
-  resume-by false e = rw (← resume-call-refused b m (callRefusal b (length m)) refl (bytes-refused e)) (λ _. (refl, refl))
+  resume-by false e = rw (← resume-call-refused b m (readOf b (length m)) refl (bytes-refused e)) (λ _. (refl, refl))
 
   pub resume-call-leaves : (resumeCall b m .number ≡ 0 → ⊥) → (resumeCall b m .state ≡ b) × (resumeCall b m .memory ≡ m)
   resume-call-leaves = resume-by (isState b) refl

@@ -1,3 +1,26 @@
-// The calls that a C program makes.
-pub mod instruction;
-pub mod runner;
+// What step, run and resume on a state as bytes share: the refusals that they try first.
+ghost use mathlib.Core.Path.{_≡_};
+ghost use Rattle.cc100.specs.Calls.{readOf};
+use codec::decode::Decoded;
+use machine::state;
+
+// The refusal that is due, memory's before the state's, or 0 and the state that the bytes stand for.
+pub fn read_state(bytes: &[u8], length: usize) -> Decoded
+    ensures { λ r. ⌜ r ≡ readOf (now (bytes .entry)) length ⌝ }
+{
+    let d = codec::decode::decode(bytes);
+    let s = d.state;
+    if d.number == 0 {
+        return Decoded {
+            number: s.refusal(length),
+            state: s,
+        };
+    }
+    if state::LONGEST < length {
+        return Decoded {
+            number: state::MEMORY,
+            state: s,
+        };
+    }
+    d
+}

@@ -1,6 +1,6 @@
 // Reads a module from standard input and prints a line for each of its words: index, word, and the instruction with its fields.
 ghost use Prim.Native.Nat.{_<_};
-use cc100::instruction::ReadAnswer;
+use cc100_instruction::ReadAnswer;
 use libc::STDIN_FILENO;
 use libc::STDOUT_FILENO;
 
@@ -41,7 +41,7 @@ fn print_line(index: usize, word: u32) {
     io::write_all(STDOUT_FILENO, b" 0x");
     io::print_hex(STDOUT_FILENO, word as u64, 8);
     io::write_all(STDOUT_FILENO, b" ");
-    print_instruction(cc100::instruction::cc100_read(word));
+    print_instruction(cc100_instruction::cc100_read(word));
     io::write_all(STDOUT_FILENO, b"\n");
 }
 

@@ -18,7 +18,7 @@ fn print_word(x: u32) {
 fn read_case(word: u32) {
     io::write_all(STDOUT_FILENO, b"read");
     print_word(word);
-    let i = cc100::instruction::cc100_read(word);
+    let i = cc100_instruction::cc100_read(word);
     io::write_all(STDOUT_FILENO, b" gives");
     print_number(i.kind);
     print_number(i.rs);
@@ -36,7 +36,7 @@ fn write_case(kind: u32, rs: u32, rt: u32, rd: u32, shift: u32, value: u32) {
     print_number(rd);
     print_number(shift);
     print_number(value);
-    let w = cc100::instruction::cc100_write(kind, rs, rt, rd, shift, value);
+    let w = cc100_instruction::cc100_write(kind, rs, rt, rd, shift, value);
     io::write_all(STDOUT_FILENO, b" gives");
     print_number(w.number);
     print_word(w.word);

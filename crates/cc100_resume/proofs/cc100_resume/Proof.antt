@@ -1,0 +1,27 @@
+use denote.Ref.{now}
+use Rattle.cc100.proofs.Calls.{resume-call-refused, resume-call-done}
+use borrow.Author.Needs.{needs}
+use Rattle.cc100_resume.proofs.cc100_resume.Statement.{statement}
+use Rattle.cc100_resume.proofs.cc100_resume.Tie as tie
+
+returns : tie.Need-returns
+returns c =
+    let a = c .before .before .before .before .before .before .args in
+    resume-call-refused (now (a .state)) (now (a .memory)) _ (c .before .before .read-state .ensures) (c .if1 .taken)
+
+returns-2 : tie.Need-returns-2
+returns-2 c =
+    let a = c .before .before .before .before .before .before .before .before .before .before .before .before .before .args in
+    resume-call-done (now (a .state)) (now (a .memory)) _ (c .before .before .before .before .before .before .before .before .before .read-state .ensures) (c .before .before .before .before .before .before .before .if1 .left) _ _ _ (c .before .before .encode .ensures) _ (c .before .before .before .before .before .resume .ensures)
+
+pub cc100-resume-spec : {M : Type 1} → statement M
+cc100-resume-spec =
+    tie.close
+    (tie.spec
+    (λ c κs. search needs)
+    (λ c. search needs)
+    returns
+    (λ c κs. search needs)
+    (λ c κs. search needs)
+    (λ c. search needs)
+    returns-2)

@@ -1,0 +1,28 @@
+use denote.Ref.{now}
+use Rattle.cc100.proofs.Calls.{run-call-refused, run-call-done}
+use borrow.Author.Needs.{needs}
+use Rattle.cc100_run.proofs.cc100_run.Statement.{statement}
+use Rattle.cc100_run.proofs.cc100_run.Tie as tie
+
+returns : tie.Need-returns
+returns c =
+    let a = c .before .before .before .before .before .before .args in
+    run-call-refused (now (a .state)) (now (a .memory)) _ (c .before .before .read-state .ensures) (a .budget) (c .if1 .taken)
+
+returns-2 : tie.Need-returns-2
+returns-2 c =
+    let a = c .before .before .before .before .before .before .before .before .before .before .before .before .before .before .before .before .args in
+    run-call-done (now (a .state)) (now (a .memory)) _ (c .before .before .before .before .before .before .before .before .before .before .before .before .read-state .ensures) (c .before .before .before .before .before .before .before .before .before .before .if1 .left) _ _ _ (c .before .before .encode .ensures) _ _ _ (a .budget) (c .before .before .before .before .before .before .before .run .ensures)
+
+pub cc100-run-spec : {M : Type 1} → statement M
+cc100-run-spec =
+    tie.close
+    (tie.spec
+    (λ c κs. search needs)
+    (λ c. search needs)
+    returns
+    (λ c κs. search needs)
+    (λ c κs. search needs)
+    (λ c. search needs)
+    (λ c. search needs)
+    returns-2)
