@@ -7,7 +7,8 @@
 CC = cc
 CFLAGS = -O2 -Wall -Wextra -Werror -Iinclude -Ibench
 ARCHIVE = target/libcc100.a
-# Each of these is compiled by itself, so that what two calls share is inlined into both.
+# Each of these is compiled by itself, so that what two calls share is inlined into both, and begins a cache line, so that its speed does
+# not hang on where a host's linker puts it.
 CALLS = cc100_instruction cc100_step cc100_run cc100_resume
 PLAIN = bench/plain_read.c bench/plain_step.c
 
@@ -28,7 +29,7 @@ archive:
 	@mkdir -p target/archive
 	@rt check $(CALLS) > target/archive/check.log 2>&1 || { cat target/archive/check.log; exit 1; }
 	@for c in $(CALLS); do rt staticlib $$c > target/archive/$$c.log 2>&1 || { cat target/archive/$$c.log; exit 1; }; done
-	@cd target/archive && rm -f *.o && for c in $(CALLS); do ar x ../staticlib/lib$$c.a; done
+	@cd target/archive && rm -f *.o && for c in $(CALLS); do ar x ../staticlib/lib$$c.a && objcopy --set-section-alignment '.text.*=64' $$c.o; done
 	@rm -f target/libcc100.a && ar rcs target/libcc100.a target/archive/*.o
 
 # Made anew where anything that it is made from changed; another archive (ARCHIVE=FILE) is taken as it is.
