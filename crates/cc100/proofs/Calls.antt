@@ -3,22 +3,23 @@ use Prim.Native.Nat.{ℕ, _<_, _≤_}
 use mathlib.Core.Path.{_≡_, refl, sym, ap, _∙_}
 use mathlib.Core.Bool.{Bool, true, false, cond, true≢false}
 use mathlib.Core.List.{List}
+use mathlib.Core.Logic.{⊎-elim}
 use native.Mathlib.Omega.{arith}
 use lib.Dec.{eqb, ltb}
 use lib.ListN.{length}
-use borrow.Author.Tests.{eqb-false, ne-eqb, lt-ltb, le-ltb}
+use borrow.Author.Tests.{eqb-true, eqb-false, ne-eqb, lt-ltb, le-ltb}
 use Rattle.machine.specs.declared.state.State.{State}
 use Rattle.machine.specs.State.{refusalOf, longest, Bytes}
 use Rattle.machine.specs.Step.{Outcome, outcome, stepOf}
 use Rattle.machine.specs.Run.{course, runOf}
 use Rattle.machine.specs.Resume.{resumeOf}
 use Rattle.machine.proofs.Steps.{step-refused, exit-leaves}
-use Rattle.machine.proofs.Runs.{run-refused}
+use Rattle.machine.proofs.Runs.{run-refused, run-numbers}
 use Rattle.machine.proofs.Resumes.{resume-refused, resume-leaves}
 use Rattle.codec.specs.declared.decode.Decoded.{Decoded}
 use Rattle.codec.specs.Bytes.{isState, stateOf, bytesOf, decoded, decodedOf, encoded, encodedOf}
-use Rattle.codec.proofs.RoundTrip.{state-length, bytes-state}
-use Rattle.cc100.specs.Calls.{callRefusal, readOf, Answer, answer, answered, stepCall, resumeCall, runAnswer, runAnswered, runCall}
+use Rattle.codec.proofs.RoundTrip.{state-length, state-typed, bytes-state}
+use Rattle.cc100.specs.Calls.{callRefusal, readOf, Answer, answer, answered, stepCall, resumeCall, RunAnswer, runAnswer, runAnswered, runCall}
 
 -- ---- what the calls read, by what the code finds
 
@@ -170,3 +171,21 @@ module _ (b m : List ℕ) (g : Bytes b) where
 
   pub resume-call-leaves : (resumeCall b m .number ≡ 0 → ⊥) → (resumeCall b m .state ≡ b) × (resumeCall b m .memory ≡ m)
   resume-call-leaves = resume-by (isState b) refl
+
+  -- a refused run, which its number tells, left both as they were, and completed no step
+  abbrev Unrun : RunAnswer → Type 0
+  Unrun r = (r .number ≡ 0 → ⊥) → r .number < 40 → (r .steps ≡ 0) × ((r .state ≡ b) × (r .memory ≡ m))
+
+  ran : Bytes m → (budget : ℕ) → callRefusal b (length m) ≡ 0 → Unrun (runAnswered (runOf (stateOf b) m budget))
+  ran h budget z n l =
+      let e : isState b ≡ true = call-state b (length m) z in
+      let k = run-numbers (stateOf b) m (state-typed b g) h budget (sym (same-refusal b m g e) ∙ z) in
+      ⊎-elim (λ y. absurd (n y)) (λ y. absurd (omega (arith, y .0, l))) k
+
+  run-by : Bytes m → (budget k : ℕ) → k ≡ callRefusal b (length m) → (t : Bool) → eqb k 0 ≡ t → Unrun (cond t (runAnswered (runOf (stateOf b) m budget)) (runAnswer k 0 b m))
+  run-by h budget k q true e = ran h budget (sym q ∙ eqb-true k 0 e)
+  run-by h budget k q false e = λ _ _. (refl, (refl, refl))
+
+  pub run-call-leaves : Bytes m → (budget : ℕ) → (runCall b m budget .number ≡ 0 → ⊥) → runCall b m budget .number < 40 → (runCall b m budget .steps ≡ 0) × ((runCall b m budget .state ≡ b) × (runCall b m budget .memory ≡ m))
+  unfolding runCall
+  run-call-leaves h budget = run-by h budget (callRefusal b (length m)) refl (eqb (callRefusal b (length m)) 0) refl

@@ -15,7 +15,7 @@ use Rattle.machine.specs.State.{registerOf, specialOf, joinOf, isLawful,
 use Rattle.machine.specs.Apply.{Machine, machine, appliedOf, applyOf}
 use Rattle.machine.specs.Step.{effectAt, exitOf, Outcome, outcome, stepOf}
 use Rattle.machine.specs.Run.{Course, course, halted, later, repeatOf, runOf, thenOf, afterOf}
-use Rattle.machine.proofs.Steps.{step-refused, step-done, step-valid, step-lawful, step-typed, step-bytes, step-length, step-zero, exit-leaves, not-refused, refused-alike, apply-exit}
+use Rattle.machine.proofs.Steps.{step-refused, step-done, step-number, step-valid, step-lawful, step-typed, step-bytes, step-length, step-zero, exit-leaves, not-refused, refused-alike, apply-exit}
 use Rattle.machine.proofs.Valid.{Valid, valid, valid-lawful}
 
 -- no step more
@@ -276,3 +276,13 @@ module _ (s : State) (m : List ℕ) (t : Typed s) (b : Bytes m) where
   pub run-more : (n : ℕ) → runOf s m (suc n) ≡ afterOf (stepOf s m) n
   run-more n =
       by-refusal s m (λ r. r ≡ afterOf (stepOf s m) n) (suc n) (repeat-more n) (λ k q e. after-refused k n q e)
+
+  -- a run that is not refused answers 0 or an exit
+  numbered : (n : ℕ) → refusalOf s (length m) ≡ 0 → (t : Bool) → eqb (runOf s m n .number) 0 ≡ t → (runOf s m n .number ≡ 0) ⊎ ((40 ≤ runOf s m n .number) × (runOf s m n .number ≤ 52))
+  numbered n z true e = inl (eqb-true _ _ e)
+  numbered n z false e =
+      let r = runOf s m n .machine in
+      rw (← run-number s m n (eqb-false _ _ e)) (step-number (r .state) (r .memory) (run-typed n s m b t) (run-bytes n s m b) (unrefused n z))
+
+  pub run-numbers : (n : ℕ) → refusalOf s (length m) ≡ 0 → (runOf s m n .number ≡ 0) ⊎ ((40 ≤ runOf s m n .number) × (runOf s m n .number ≤ 52))
+  run-numbers n z = numbered n z (eqb (runOf s m n .number) 0) refl

@@ -175,6 +175,11 @@ pub refused-alike : (s t : State) (n : ℕ) → refusalOf s n ≡ 0 → isLawful
 unfolding refusalOf
 refused-alike s t n e l = let f = rw (not-refused s n e) at e in rw l f
 
+-- a step that is not refused answers 0 or an exit
+pub step-number : (s : State) (m : List ℕ) → Typed s → Bytes m → refusalOf s (length m) ≡ 0 → (stepOf s m .number ≡ 0) ⊎ ((40 ≤ stepOf s m .number) × (stepOf s m .number ≤ 52))
+unfolding stepOf
+step-number s m t b z = rw z (try-number s m (valid s t (not-refused s (length m) z)) b)
+
 pub step-valid : (s : State) (m : List ℕ) → Valid s → Bytes m → Valid (stepOf s m .machine .state)
 unfolding tryOf
 step-valid s m v b =

@@ -7,69 +7,21 @@ ghost use mathlib.Core.Path.{_≡_};
 ghost use lib.ListN.{length};
 use libc::STDIN_FILENO;
 use libc::STDOUT_FILENO;
-use machine::state::State;
-use machine::step::Stepped;
 
+// Where the state begins in a case.
+const STATE: usize = 0;
 // Where the memory begins in a case.
 const MEMORY: usize = 172;
 // More cases are not read.
 const CASES: u32 = 1000000;
 
-fn registers_of(s: &[u8]) -> [u32; 32]
-    requires { ⌜ length (now s) ≡ 256 ⌝ }
+fn print_state(before: &[u8], after: &[u8])
+    requires { ⌜ (length (now before) ≡ 164) × (length (now after) ≡ 164) ⌝ }
 {
-    let mut r = [0; 32];
-    let mut i = 0;
-    while i < 32 {
-        r[i] = word::bytes::load32(s, 4 * i);
-        i += 1;
-    }
-    r
-}
-
-fn state_of(s: &[u8]) -> State
-    requires { ⌜ length (now s) ≡ 256 ⌝ }
-{
-    State {
-        registers: registers_of(s),
-        hi: word::bytes::load32(s, 128),
-        lo: word::bytes::load32(s, 132),
-        pc: word::bytes::load32(s, 136),
-        next_pc: word::bytes::load32(s, 140),
-        ll: word::bytes::load32(s, 144) != 0,
-        bad: word::bytes::load32(s, 148),
-        status: word::bytes::load32(s, 152),
-        cause: word::bytes::load32(s, 156),
-        epc: word::bytes::load32(s, 160),
-    }
-}
-
-fn bit(t: bool) -> u32 {
-    if t { 1 } else { 0 }
-}
-
-fn word_of(s: State, i: usize) -> u32 {
-    if i < 32 {
-        return s.registers[i];
-    }
-    match i {
-        32 => s.hi,
-        33 => s.lo,
-        34 => s.pc,
-        35 => s.next_pc,
-        36 => bit(s.ll),
-        37 => s.bad,
-        38 => s.status,
-        39 => s.cause,
-        _ => s.epc,
-    }
-}
-
-fn print_state(before: State, after: State) {
     let mut i: usize = 0;
     while i < 41 {
-        let x = word_of(after, i);
-        if word_of(before, i) != x {
+        let x = word::bytes::load32(after, 4 * i);
+        if word::bytes::load32(before, 4 * i) != x {
             io::write_all(STDOUT_FILENO, b" ");
             io::print_decimal(STDOUT_FILENO, i as u64);
             io::write_all(STDOUT_FILENO, b"=");
@@ -95,21 +47,16 @@ fn print_memory(before: &[u8], after: &[u8]) {
     }
 }
 
-fn steps(s: State, memory: &mut [u8], count: u32) -> Stepped {
-    let mut r = Stepped {
-        number: 0,
-        state: s,
-    };
+fn steps(state: &mut [u8], memory: &mut [u8], count: u32) -> u32 {
     let mut done: u32 = 0;
     while done < count {
-        let t = r.state;
-        r = t.step(memory);
-        if r.number != 0 {
-            return r;
+        let number = cc100_step::cc100_step(state, memory);
+        if number != 0 {
+            return number;
         }
         done += 1;
     }
-    r
+    0
 }
 
 fn copy(from: &[u8], to: &mut [u8])
@@ -122,29 +69,30 @@ fn copy(from: &[u8], to: &mut [u8])
     }
 }
 
-fn run_case(s: &[u8], memory: &mut [u8])
-    requires { ⌜ (length (now s) ≡ 256) × (length (now memory) ≤ 84) ⌝ }
+fn run_case(s: &[u8], state: &mut [u8], memory: &mut [u8])
+    requires { ⌜ (length (now s) ≡ 256) × ((length (now state) ≡ 164) × (length (now memory) ≤ 84)) ⌝ }
 {
-    let before = state_of(s);
+    let before = &s[STATE..STATE + state.len()];
     let from = &s[MEMORY..MEMORY + memory.len()];
+    copy(before, state);
     copy(from, memory);
-    let r = steps(before, memory, word::bytes::load32(s, 168));
-    io::print_decimal(STDOUT_FILENO, r.number as u64);
-    print_state(before, r.state);
+    let number = steps(state, memory, word::bytes::load32(s, 168));
+    io::print_decimal(STDOUT_FILENO, number as u64);
+    print_state(before, state);
     print_memory(from, memory);
     io::write_all(STDOUT_FILENO, b"\n");
 }
 
 // Answers whether there was a case.
-fn next_case(case: &mut [u8], space: &mut [u8]) -> bool
-    requires { ⌜ (length (now case) ≡ 256) × (length (now space) ≡ 84) ⌝ }
+fn next_case(case: &mut [u8], state: &mut [u8], space: &mut [u8]) -> bool
+    requires { ⌜ (length (now case) ≡ 256) × ((length (now state) ≡ 164) × (length (now space) ≡ 84)) ⌝ }
 {
     if io::read_full(STDIN_FILENO, case) < 256 {
         return false;
     }
     let n = word::bytes::load32(case, 164) as usize;
     if n <= 84 {
-        run_case(case, &mut space[..n]);
+        run_case(case, state, &mut space[..n]);
         return true;
     }
     false
@@ -152,10 +100,11 @@ fn next_case(case: &mut [u8], space: &mut [u8]) -> bool
 
 fn main() {
     let mut case = [0; 256];
+    let mut state = [0; 164];
     let mut space = [0; 84];
     let mut i: u32 = 0;
     while i < CASES {
-        if !next_case(&mut case, &mut space) {
+        if !next_case(&mut case, &mut state, &mut space) {
             return;
         }
         i += 1;

@@ -1,15 +1,15 @@
-use borrow.Author.Needs.{needs}
 use Prim.Native.Nat.{_≤_, _-_}
 use mathlib.Core.Path.{_≡_}
 use lib.ListN.{length}
+use borrow.Author.Needs.{needs}
 use Rattle.steps.proofs.main.Statement.{statement}
 use Rattle.steps.proofs.main.Tie as tie
 
 abbrev Inv-loop : tie.InvT-loop
-Inv-loop case₀ space₀ i₀ case space i = (i ≤ 1000000) × ((length case ≡ 256) × (length space ≡ 84))
+Inv-loop case₀ state₀ space₀ i₀ case state space i = (i ≤ 1000000) × ((length case ≡ 256) × ((length state ≡ 164) × (length space ≡ 84)))
 
 abbrev μ-loop : tie.MeasureT-loop
-μ-loop case₀ space₀ i₀ case space i = 1000000 - i
+μ-loop case₀ state₀ space₀ i₀ case state space i = 1000000 - i
 
 pub main-spec : {M : Type 1} → statement M
 main-spec =
@@ -17,6 +17,7 @@ main-spec =
     (tie.spec
     Inv-loop
     μ-loop
+    (λ c. search needs)
     (λ c. search needs)
     (λ c. search needs)
     (λ c. search needs)

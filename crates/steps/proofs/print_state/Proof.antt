@@ -1,5 +1,5 @@
-use borrow.Author.Needs.{needs}
 use Prim.Native.Nat.{_≤_, _-_}
+use borrow.Author.Needs.{needs}
 use Rattle.steps.proofs.print_state.Statement.{statement}
 use Rattle.steps.proofs.print_state.Tie as tie
 
@@ -16,7 +16,9 @@ print-state-spec =
     Inv-loop
     μ-loop
     (λ c. search needs)
+    (λ c. search needs)
     (λ c κs. search needs)
+    (λ c. search needs)
     (λ c κs. search needs)
     (λ c. search needs)
     (λ c κs. search needs)
