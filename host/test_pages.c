@@ -1,5 +1,5 @@
-/* No byte outside what was lent is even read, and a resume writes nothing to memory: pages that the system protects show it, by
-   ending the tests. */
+/* No byte outside what was lent is even read, a resume writes nothing to memory, and a refused call writes nothing at all: pages that the
+   system protects show it, by ending the tests. */
 #define _DEFAULT_SOURCE
 #include <stdio.h>
 #include <stdlib.h>
@@ -70,6 +70,27 @@ static void memory_only_read(uint8_t *memory, size_t size, uint32_t word, uint32
     give_back(&m);
 }
 
+/* A store at PC, in state and memory that cannot be written. With register 0 not zero all three calls are refused, else the resume is. */
+static void nothing_written(uint8_t *states, uint8_t *memories, size_t size, uint32_t register_0)
+{
+    struct machine m = lend(CC100_STATE_LENGTH, 0);
+    put_state(&m, CC100_REGISTER(0), register_0);
+    memcpy(states, m.state.bytes, CC100_STATE_LENGTH);
+    cc100_set_word(memories, SW);
+    mprotect(states, size, PROT_READ);
+    mprotect(memories, size, PROT_READ);
+    calling("register 0 %u, in a state that cannot be written", (unsigned)register_0);
+    if (register_0) {
+        expect_number("number of cc100_run", CC100_REFUSED_STATE, cc100_run(states, CC100_STATE_LENGTH, memories, size, 1).number);
+        expect_number("number of cc100_step", CC100_REFUSED_STATE, cc100_step(states, CC100_STATE_LENGTH, memories, size));
+    }
+    expect_number("number of cc100_resume", register_0 ? CC100_REFUSED_STATE : CC100_REFUSED_RESUME,
+                  cc100_resume(states, CC100_STATE_LENGTH, memories, size));
+    mprotect(states, size, PROT_READ | PROT_WRITE);
+    mprotect(memories, size, PROT_READ | PROT_WRITE);
+    give_back(&m);
+}
+
 void test_pages(void)
 {
     size_t size = (size_t)sysconf(_SC_PAGESIZE);
@@ -82,6 +103,8 @@ void test_pages(void)
     memory_only_read(memories, size, SYSCALL, CC100_DONE);
     memory_only_read(memories, size, SW, CC100_REFUSED_RESUME);
     memory_only_read(memories, size, SC, CC100_REFUSED_RESUME);
+    nothing_written(states, memories, size, 0);
+    nothing_written(states, memories, size, 1);
     munmap(states - size, 3 * size);
     munmap(memories - size, 3 * size);
 }

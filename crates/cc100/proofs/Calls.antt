@@ -92,27 +92,37 @@ module _ (b m : List ℕ) (r : Decoded) (given : r ≡ readOf b (length m)) wher
   unfolding runCall
   run-call-refused budget n = rw (← number, ne-eqb (r .number) 0 n)
 
-  module _ (z : r .number ≡ 0) (t : State) (x : List ℕ) (k : ℕ) (left : encoded k x ≡ encodedOf t b) where
+  module _ (z : r .number ≡ 0) where
     served : callRefusal b (length m) ≡ 0
     served = sym number ∙ z
 
     lent : r .state ≡ stateOf b
     lent = ap (λ x. x .state) given ∙ decoded-state b (call-state b (length m) served)
 
-    bytes : x ≡ bytesOf t
-    bytes = encode-bytes t b x k (call-state b (length m) served) left
-
-    pub step-call-done : (o : ℕ) (y : List ℕ) → outcome o t y ≡ stepOf (r .state) m → answer o x y ≡ stepCall b m
-    unfolding stepCall
-    step-call-done o y h = rw (served, bytes) (ap answered h ∙ rw lent)
-
-    pub resume-call-done : (o : ℕ) → outcome o t m ≡ resumeOf (r .state) m → answer o x m ≡ resumeCall b m
+    -- 19: nothing is written
+    pub resume-call-left : Bytes b → (o : ℕ) (t : State) → outcome o t m ≡ resumeOf (r .state) m → (o ≡ 0 → ⊥) → answer o b m ≡ resumeCall b m
     unfolding resumeCall
-    resume-call-done o h = rw (served, bytes) (ap answered h ∙ rw lent)
+    resume-call-left g o t h n =
+        let e : outcome o t m ≡ resumeOf (stateOf b) m = h ∙ rw lent in
+        let k : o ≡ resumeOf (stateOf b) m .number = ap (λ x. x .number) e in
+        let l = resume-leaves (stateOf b) m (λ y. n (k ∙ y)) in
+        rw (served, l, ← k, bytes-state b g (call-state b (length m) served))
 
-    pub run-call-done : (o n : ℕ) (y : List ℕ) (budget : ℕ) → course o n t y ≡ runOf (r .state) m budget → runAnswer o n x y ≡ runCall b m budget
-    unfolding runCall
-    run-call-done o n y budget h = rw (served, bytes) (ap runAnswered h ∙ rw lent)
+    module _ (t : State) (x : List ℕ) (k : ℕ) (left : encoded k x ≡ encodedOf t b) where
+      bytes : x ≡ bytesOf t
+      bytes = encode-bytes t b x k (call-state b (length m) served) left
+
+      pub step-call-done : (o : ℕ) (y : List ℕ) → outcome o t y ≡ stepOf (r .state) m → answer o x y ≡ stepCall b m
+      unfolding stepCall
+      step-call-done o y h = rw (served, bytes) (ap answered h ∙ rw lent)
+
+      pub resume-call-done : (o : ℕ) → outcome o t m ≡ resumeOf (r .state) m → answer o x m ≡ resumeCall b m
+      unfolding resumeCall
+      resume-call-done o h = rw (served, bytes) (ap answered h ∙ rw lent)
+
+      pub run-call-done : (o n : ℕ) (y : List ℕ) (budget : ℕ) → course o n t y ≡ runOf (r .state) m budget → runAnswer o n x y ≡ runCall b m budget
+      unfolding runCall
+      run-call-done o n y budget h = rw (served, bytes) (ap runAnswered h ∙ rw lent)
 
 -- ---- the calls do what the machine does, refused or not
 

@@ -12,6 +12,9 @@ pub extern "C" fn cc100_resume(state: &mut [u8], memory: &[u8]) -> u32
     }
     let s = read.state;
     let r = s.resume(memory);
+    if r.number != 0 {
+        return r.number;
+    }
     let resumed = r.state;
     codec::encode::encode(resumed, state);
     r.number

@@ -1,5 +1,5 @@
 use denote.Ref.{now}
-use Rattle.cc100.proofs.Calls.{resume-call-refused, resume-call-done}
+use Rattle.cc100.proofs.Calls.{resume-call-refused, resume-call-left, resume-call-done}
 use borrow.Author.Needs.{needs}
 use Rattle.cc100_resume.proofs.cc100_resume.Statement.{statement}
 use Rattle.cc100_resume.proofs.cc100_resume.Tie as tie
@@ -11,8 +11,13 @@ returns c =
 
 returns-2 : tie.Need-returns-2
 returns-2 c =
-    let a = c .before .before .before .before .before .before .before .before .before .before .before .before .before .args in
-    resume-call-done (now (a .state)) (now (a .memory)) _ (c .before .before .before .before .before .before .before .before .before .read-state .ensures) (c .before .before .before .before .before .before .before .if1 .left) _ _ _ (c .before .before .encode .ensures) _ (c .before .before .before .before .before .resume .ensures)
+    let a = c .before .before .before .before .before .before .before .before .before .before .args in
+    resume-call-left (now (a .state)) (now (a .memory)) _ (c .before .before .before .before .before .before .read-state .ensures) (c .before .before .before .before .if1 .left) (λ i. c .before .before .before .before .before .before .before .before .before .slice-known .given i .fits) _ _ (c .before .before .resume .ensures) (c .if2 .taken)
+
+returns-3 : tie.Need-returns-3
+returns-3 c =
+    let a = c .before .before .before .before .before .before .before .before .before .before .before .before .before .before .before .args in
+    resume-call-done (now (a .state)) (now (a .memory)) _ (c .before .before .before .before .before .before .before .before .before .before .before .read-state .ensures) (c .before .before .before .before .before .before .before .before .before .if1 .left) _ _ _ (c .before .before .encode .ensures) _ (c .before .before .before .before .before .before .before .resume .ensures)
 
 pub cc100-resume-spec : {M : Type 1} → statement M
 cc100-resume-spec =
@@ -22,6 +27,8 @@ cc100-resume-spec =
     (λ c. search needs)
     returns
     (λ c κs. search needs)
+    (λ c. search needs)
+    returns-2
     (λ c κs. search needs)
     (λ c. search needs)
-    returns-2)
+    returns-3)
