@@ -1,7 +1,7 @@
 -- The theorems about step, run and resume on bytes: what a refused call leaves, and that the others do what the machine does.
 use Prim.Native.Nat.{ℕ, _<_, _≤_}
 use mathlib.Core.Path.{_≡_, refl, sym, ap, _∙_}
-use mathlib.Core.Bool.{Bool, true, false, cond, true≢false}
+use mathlib.Core.Bool.{Bool, true, false, cond}
 use mathlib.Core.List.{List}
 use mathlib.Core.Logic.{⊎-elim}
 use native.Mathlib.Omega.{arith}
@@ -19,7 +19,7 @@ use Rattle.machine.proofs.Resumes.{resume-refused, resume-leaves}
 use Rattle.codec.specs.declared.decode.Decoded.{Decoded}
 use Rattle.codec.specs.Bytes.{isState, stateOf, bytesOf, decoded, decodedOf, encoded, encodedOf}
 use Rattle.codec.proofs.RoundTrip.{state-length, state-typed, bytes-state}
-use Rattle.cc100.specs.Calls.{callRefusal, readOf, Answer, answer, answered, stepCall, resumeCall, RunAnswer, runAnswer, runAnswered, runCall}
+use Rattle.cc100.specs.Calls.{callRefusal, readOf, Answer, answer, answered, callOf, stepCall, resumeCall, RunAnswer, runAnswer, runAnswered, runCall}
 
 -- ---- what the calls read, by what the code finds
 
@@ -69,56 +69,55 @@ served-by b n false false e f z = let y = rw (e, f) at z in let x : ⊥ = omega 
 pub call-state : (b : List ℕ) (n : ℕ) → callRefusal b n ≡ 0 → isState b ≡ true
 call-state b n z = served-by b n (isState b) (ltb longest n) refl refl z
 
+-- an outcome that is not 0 leaves state and memory
+abbrev Leaving : State → List ℕ → Outcome → Type 0
+Leaving s m o = (o .number ≡ 0 → ⊥) → o .machine ≡ record { state = s; memory = m }
+
 -- what encode leaves of a state's bytes
 encode-bytes : (s : State) (b x : List ℕ) (k : ℕ) → isState b ≡ true → encoded k x ≡ encodedOf s b → x ≡ bytesOf s
 unfolding encodedOf
 encode-bytes s b x k e h = ap (λ o. o .bytes) h ∙ rw (state-length b e)
 
--- ---- the calls, by what the code finds
+-- ---- the calls, by what the code finds; f is what the machine does, step or resume
 
 module _ (b m : List ℕ) (r : Decoded) (given : r ≡ readOf b (length m)) where
   number : r .number ≡ callRefusal b (length m)
   number = ap (λ x. x .number) given
 
-  pub step-call-refused : (r .number ≡ 0 → ⊥) → answer (r .number) b m ≡ stepCall b m
-  unfolding stepCall
-  step-call-refused n = rw (← number, ne-eqb (r .number) 0 n)
+  pub call-refused : (r .number ≡ 0 → ⊥) → (o : Outcome) → answer (r .number) b m ≡ callOf b m o
+  unfolding callOf
+  call-refused n o = rw (← number, ne-eqb (r .number) 0 n)
 
-  pub resume-call-refused : (r .number ≡ 0 → ⊥) → answer (r .number) b m ≡ resumeCall b m
-  unfolding resumeCall
-  resume-call-refused n = rw (← number, ne-eqb (r .number) 0 n)
-
-  pub run-call-refused : (budget : ℕ) → (r .number ≡ 0 → ⊥) → runAnswer (r .number) 0 b m ≡ runCall b m budget
+  pub run-call-refused : (r .number ≡ 0 → ⊥) → (budget : ℕ) → runAnswer (r .number) 0 b m ≡ runCall b m budget
   unfolding runCall
-  run-call-refused budget n = rw (← number, ne-eqb (r .number) 0 n)
+  run-call-refused n budget = rw (← number, ne-eqb (r .number) 0 n)
 
   module _ (z : r .number ≡ 0) where
     served : callRefusal b (length m) ≡ 0
     served = sym number ∙ z
 
-    lent : r .state ≡ stateOf b
-    lent = ap (λ x. x .state) given ∙ decoded-state b (call-state b (length m) served)
+    whole : isState b ≡ true
+    whole = call-state b (length m) served
 
-    -- 19: nothing is written
-    pub resume-call-left : Bytes b → (o : ℕ) (t : State) → outcome o t m ≡ resumeOf (r .state) m → (o ≡ 0 → ⊥) → answer o b m ≡ resumeCall b m
-    unfolding resumeCall
-    resume-call-left g o t h n =
-        let e : outcome o t m ≡ resumeOf (stateOf b) m = h ∙ rw lent in
-        let k : o ≡ resumeOf (stateOf b) m .number = ap (λ x. x .number) e in
-        let l = resume-leaves (stateOf b) m (λ y. n (k ∙ y)) in
-        rw (served, l, ← k, bytes-state b g (call-state b (length m) served))
+    lent : r .state ≡ stateOf b
+    lent = ap (λ x. x .state) given ∙ decoded-state b whole
+
+    -- the state is not written where the machine leaves it
+    pub call-left : Bytes b → (f : State → Outcome) → ((s : State) → Leaving s m (f s)) → (k : ℕ) (t : State) → outcome k t m ≡ f (r .state) → (k ≡ 0 → ⊥) → answer k b m ≡ callOf b m (f (stateOf b))
+    unfolding callOf
+    call-left g f v k t h n =
+        let e : outcome k t m ≡ f (stateOf b) = h ∙ rw lent in
+        let q : k ≡ f (stateOf b) .number = ap (λ x. x .number) e in
+        let l = v (stateOf b) (λ y. n (q ∙ y)) in
+        rw (served, l, ← q, bytes-state b g whole)
 
     module _ (t : State) (x : List ℕ) (k : ℕ) (left : encoded k x ≡ encodedOf t b) where
       bytes : x ≡ bytesOf t
-      bytes = encode-bytes t b x k (call-state b (length m) served) left
+      bytes = encode-bytes t b x k whole left
 
-      pub step-call-done : (o : ℕ) (y : List ℕ) → outcome o t y ≡ stepOf (r .state) m → answer o x y ≡ stepCall b m
-      unfolding stepCall
-      step-call-done o y h = rw (served, bytes) (ap answered h ∙ rw lent)
-
-      pub resume-call-done : (o : ℕ) → outcome o t m ≡ resumeOf (r .state) m → answer o x m ≡ resumeCall b m
-      unfolding resumeCall
-      resume-call-done o h = rw (served, bytes) (ap answered h ∙ rw lent)
+      pub call-done : (f : State → Outcome) (o : ℕ) (y : List ℕ) → outcome o t y ≡ f (r .state) → answer o x y ≡ callOf b m (f (stateOf b))
+      unfolding callOf
+      call-done f o y h = rw (served, bytes) (ap answered h ∙ rw lent)
 
       pub run-call-done : (o n : ℕ) (y : List ℕ) (budget : ℕ) → course o n t y ≡ runOf (r .state) m budget → runAnswer o n x y ≡ runCall b m budget
       unfolding runCall
@@ -140,15 +139,16 @@ module _ (b m : List ℕ) (g : Bytes b) (e : isState b ≡ true) where
   unfolding callRefusal
   same-refusal = rw e
 
+  call-as : (o : Outcome) → ((refusal ≡ 0 → ⊥) → outcome refusal (stateOf b) m ≡ o) → callOf b m o ≡ answered o
+  unfolding callOf
+  call-as o h =
+      rw same-refusal (chosen refusal (eqb refusal 0) refl _ _ (λ n. rw (← h n, bytes-state b g e)))
+
   pub step-call : stepCall b m ≡ answered (stepOf (stateOf b) m)
-  unfolding stepCall
-  step-call =
-      rw same-refusal (chosen refusal (eqb refusal 0) refl _ _ (λ n. rw (← step-refused (stateOf b) m refusal refl n, bytes-state b g e)))
+  step-call = call-as (stepOf (stateOf b) m) (step-refused (stateOf b) m refusal refl)
 
   pub resume-call : resumeCall b m ≡ answered (resumeOf (stateOf b) m)
-  unfolding resumeCall
-  resume-call =
-      rw same-refusal (chosen refusal (eqb refusal 0) refl _ _ (λ n. rw (← resume-refused (stateOf b) m refusal refl n, bytes-state b g e)))
+  resume-call = call-as (resumeOf (stateOf b) m) (resume-refused (stateOf b) m refusal refl)
 
   pub run-call : (budget : ℕ) → runCall b m budget ≡ runAnswered (runOf (stateOf b) m budget)
   unfolding runCall
@@ -162,25 +162,21 @@ module _ (b m : List ℕ) (g : Bytes b) where
   abbrev Leaves : Answer → Type 0
   Leaves r = (r .number ≡ 0 → ⊥) → (r .state ≡ b) × (r .memory ≡ m)
 
-  left-as : (o : Outcome) → isState b ≡ true → ((o .number ≡ 0 → ⊥) → o .machine ≡ record { state = stateOf b; memory = m }) → Leaves (answered o)
-  left-as o e h n = (ap (λ x. bytesOf (x .state)) (h n) ∙ bytes-state b g e, ap (λ x. x .memory) (h n))
+  left-by : (k : ℕ) → k ≡ callRefusal b (length m) → (t : Bool) → eqb k 0 ≡ t → (o : Outcome) → Leaving (stateOf b) m o → Leaves (cond t (answered o) (answer k b m))
+  left-by k q true e o h n =
+      let w = call-state b (length m) (sym q ∙ eqb-true k 0 e) in
+      (ap (λ x. bytesOf (x .state)) (h n) ∙ bytes-state b g w, ap (λ x. x .memory) (h n))
+  left-by k q false e o h n = (refl, refl)
 
-  bytes-refused : isState b ≡ false → callRefusal b (length m) ≡ 0 → ⊥
-  bytes-refused e z = true≢false (sym (call-state b (length m) z) ∙ e)
-
-  step-by : (t : Bool) → isState b ≡ t → Leaves (stepCall b m)
-  step-by true e = rw (step-call b m g e) (left-as (stepOf (stateOf b) m) e (exit-leaves (stateOf b) m))
-  step-by false e = rw (← step-call-refused b m (readOf b (length m)) refl (bytes-refused e)) (λ _. (refl, refl))
+  call-leaves : (o : Outcome) → Leaving (stateOf b) m o → Leaves (callOf b m o)
+  unfolding callOf
+  call-leaves o h = left-by (callRefusal b (length m)) refl (eqb (callRefusal b (length m)) 0) refl o h
 
   pub step-call-leaves : (stepCall b m .number ≡ 0 → ⊥) → (stepCall b m .state ≡ b) × (stepCall b m .memory ≡ m)
-  step-call-leaves = step-by (isState b) refl
-
-  resume-by : (t : Bool) → isState b ≡ t → Leaves (resumeCall b m)
-  resume-by true e = rw (resume-call b m g e) (left-as (resumeOf (stateOf b) m) e (resume-leaves (stateOf b) m))
-  resume-by false e = rw (← resume-call-refused b m (readOf b (length m)) refl (bytes-refused e)) (λ _. (refl, refl))
+  step-call-leaves = call-leaves (stepOf (stateOf b) m) (exit-leaves (stateOf b) m)
 
   pub resume-call-leaves : (resumeCall b m .number ≡ 0 → ⊥) → (resumeCall b m .state ≡ b) × (resumeCall b m .memory ≡ m)
-  resume-call-leaves = resume-by (isState b) refl
+  resume-call-leaves = call-leaves (resumeOf (stateOf b) m) (resume-leaves (stateOf b) m)
 
   -- a refused run, which its number tells, left both as they were, and completed no step
   abbrev Unrun : RunAnswer → Type 0

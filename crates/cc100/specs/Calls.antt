@@ -33,13 +33,15 @@ answer k b m = record { number = k; state = b; memory = m }
 abbrev pub answered : Outcome → Answer
 answered o = answer (o .number) (bytesOf (o .machine .state)) (o .machine .memory)
 
-unfoldable pub stepCall : List ℕ → List ℕ → Answer
-stepCall b m =
-    cond (eqb (callRefusal b (length m)) 0) (answered (stepOf (stateOf b) m)) (answer (callRefusal b (length m)) b m)
+-- refused, with every byte as it was, or what the machine does
+unfoldable pub callOf : List ℕ → List ℕ → Outcome → Answer
+callOf b m o = cond (eqb (callRefusal b (length m)) 0) (answered o) (answer (callRefusal b (length m)) b m)
 
-unfoldable pub resumeCall : List ℕ → List ℕ → Answer
-resumeCall b m =
-    cond (eqb (callRefusal b (length m)) 0) (answered (resumeOf (stateOf b) m)) (answer (callRefusal b (length m)) b m)
+abbrev pub stepCall : List ℕ → List ℕ → Answer
+stepCall b m = callOf b m (stepOf (stateOf b) m)
+
+abbrev pub resumeCall : List ℕ → List ℕ → Answer
+resumeCall b m = callOf b m (resumeOf (stateOf b) m)
 
 -- ---- run
 

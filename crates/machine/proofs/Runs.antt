@@ -6,13 +6,13 @@ use mathlib.Core.List.{List}
 use mathlib.Core.Logic.{_⊎_, inl, inr}
 use native.Mathlib.Omega.{arith}
 use lib.Dec.{eqb}
-use lib.ListN.{length, getD}
-use borrow.Author.Tests.{eqb-true, eqb-false, eq-eqb, ne-eqb}
+use lib.ListN.{length}
+use borrow.Author.Tests.{eqb-true, eqb-false, ne-eqb}
 use Rattle.effect.specs.declared.effect.Special.{Special}
 use Rattle.effect.specs.declared.effect.Effect.{Effect}
 use Rattle.machine.specs.declared.state.State.{State}
 use Rattle.machine.specs.State.{registerOf, specialOf, joinOf, isLawful, refusalOf, Typed, Bytes}
-use Rattle.machine.specs.Apply.{Machine, machine, appliedOf, applyOf}
+use Rattle.machine.specs.Apply.{machine, applyOf}
 use Rattle.machine.specs.Step.{effectAt, exitOf, Outcome, outcome, stepOf}
 use Rattle.machine.specs.Run.{Course, course, halted, later, repeatOf, runOf, thenOf, afterOf}
 use Rattle.machine.proofs.Steps.{step-refused, step-done, step-number, step-valid, step-lawful, step-typed, step-bytes, step-length, step-zero, exit-leaves, not-refused, refused-alike, apply-exit}

@@ -7,7 +7,7 @@ use Rattle.cc100_run.proofs.cc100_run.Tie as tie
 returns : tie.Need-returns
 returns c =
     let a = c .before .before .before .before .before .before .args in
-    run-call-refused (now (a .state)) (now (a .memory)) _ (c .before .before .read-state .ensures) (a .budget) (c .if1 .taken)
+    run-call-refused (now (a .state)) (now (a .memory)) _ (c .before .before .read-state .ensures) (c .if1 .taken) (a .budget)
 
 returns-2 : tie.Need-returns-2
 returns-2 c =

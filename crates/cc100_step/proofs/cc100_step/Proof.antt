@@ -1,5 +1,6 @@
 use denote.Ref.{now}
-use Rattle.cc100.proofs.Calls.{step-call-refused, step-call-done}
+use Rattle.machine.specs.Step.{stepOf}
+use Rattle.cc100.proofs.Calls.{call-refused, call-done}
 use borrow.Author.Needs.{needs}
 use Rattle.cc100_step.proofs.cc100_step.Statement.{statement}
 use Rattle.cc100_step.proofs.cc100_step.Tie as tie
@@ -7,12 +8,12 @@ use Rattle.cc100_step.proofs.cc100_step.Tie as tie
 returns : tie.Need-returns
 returns c =
     let a = c .before .before .before .before .before .before .args in
-    step-call-refused (now (a .state)) (now (a .memory)) _ (c .before .before .read-state .ensures) (c .if1 .taken)
+    call-refused (now (a .state)) (now (a .memory)) _ (c .before .before .read-state .ensures) (c .if1 .taken) _
 
 returns-2 : tie.Need-returns-2
 returns-2 c =
     let a = c .before .before .before .before .before .before .before .before .before .before .before .before .before .before .before .before .args in
-    step-call-done (now (a .state)) (now (a .memory)) _ (c .before .before .before .before .before .before .before .before .before .before .before .before .read-state .ensures) (c .before .before .before .before .before .before .before .before .before .before .if1 .left) _ _ _ (c .before .before .encode .ensures) _ _ (c .before .before .before .before .before .before .before .step .ensures)
+    call-done (now (a .state)) (now (a .memory)) _ (c .before .before .before .before .before .before .before .before .before .before .before .before .read-state .ensures) (c .before .before .before .before .before .before .before .before .before .before .if1 .left) _ _ _ (c .before .before .encode .ensures) (λ s. stepOf s (now (a .memory))) _ _ (c .before .before .before .before .before .before .before .step .ensures)
 
 pub cc100-step-spec : {M : Type 1} → statement M
 cc100-step-spec =

@@ -1,4 +1,4 @@
-use mathlib.Core.Path.{_≡_, sym, _∙_}
+use mathlib.Core.Path.{sym, _∙_}
 use denote.Ref.{now}
 use Rattle.machine.proofs.Resumes.{resume-refused, resume-served, resume-not-served}
 use borrow.Author.Needs.{needs}
