@@ -1,9 +1,3 @@
-// What an instruction does, decided from numbers alone before anything is done.
-pub mod access;
-pub mod arithmetic;
-pub mod branch;
-pub mod decision;
+// What a step can do, and the numbers of the exits.
 pub mod effect;
 pub mod exit;
-pub mod system;
-pub mod trap;

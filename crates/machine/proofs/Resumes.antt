@@ -8,7 +8,7 @@ use lib.ListN.{length}
 use native.Mathlib.Omega.{arith}
 use borrow.Author.Tests.{eqb-false, ne-eqb}
 use Rattle.effect.specs.declared.effect.Effect.{Effect}
-use Rattle.effect.specs.Branch.{slotOf}
+use Rattle.branch.specs.Branch.{slotOf}
 use Rattle.machine.specs.declared.state.State.{State}
 use Rattle.machine.specs.State.{isLawful, refusalOf, Typed}
 use Rattle.machine.specs.Step.{effectAt, exitOf, Outcome, outcome, tryOf, stepOf}

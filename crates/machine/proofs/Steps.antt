@@ -19,9 +19,9 @@ use Rattle.effect.specs.declared.effect.Special.{Special}
 use Rattle.effect.specs.declared.effect.Effect.{Effect}
 use Rattle.effect.specs.declared.effect.Effect.the-variants.{Exit, Advance, Write, Pair, Jump, Link, LoadByte, LoadHalf, LoadWord, LoadLinked, StoreByte, StoreHalf, StoreWord, StoreLinked, Control, Return}
 use Rattle.effect.specs.Exit.{noInstruction, fetchOutside}
-use Rattle.effect.specs.Effect.{decisionOf}
+use Rattle.decision.specs.Decision.{decisionOf}
 use Rattle.effect.specs.Sound.{Sound}
-use Rattle.effect.proofs.Sound.{exits, decision-sound}
+use Rattle.decision.proofs.Sound.{exits, decision-sound}
 use Rattle.machine.specs.declared.state.State.{State}
 use Rattle.machine.specs.State.{registerOf, specialOf, joinOf, isLawful, refusalOf, longest, Typed, Bytes}
 use Rattle.machine.specs.Apply.{Machine, machine, Span, span, appliedOf, applyOf, storedOf, Outside}

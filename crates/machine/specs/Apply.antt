@@ -10,7 +10,7 @@ use Rattle.word.specs.Bytes.{loadOf, storeOf}
 use Rattle.effect.specs.declared.effect.Special.{Special}
 use Rattle.effect.specs.declared.effect.Effect.{Effect}
 use Rattle.effect.specs.declared.effect.Effect.the-variants.{Exit, Advance, Write, Pair, Jump, Link, LoadByte, LoadHalf, LoadWord, LoadLinked, StoreByte, StoreHalf, StoreWord, StoreLinked, Control, Return}
-use Rattle.effect.specs.Branch.{slotOf}
+use Rattle.branch.specs.Branch.{slotOf}
 use Rattle.machine.specs.declared.state.State.{State}
 use Rattle.machine.specs.State.{specialOf, joinOf}
 

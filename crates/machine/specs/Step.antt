@@ -13,8 +13,8 @@ use Rattle.isa.specs.Class.{classOf}
 use Rattle.effect.specs.declared.effect.Effect.{Effect}
 use Rattle.effect.specs.declared.effect.Effect.the-variants.{Exit, Advance, Write, Pair, Jump, Link, LoadByte, LoadHalf, LoadWord, LoadLinked, StoreByte, StoreHalf, StoreWord, StoreLinked, Control, Return}
 use Rattle.effect.specs.Exit.{noInstruction, fetchOutside}
-use Rattle.effect.specs.Access.{addressOf}
-use Rattle.effect.specs.Effect.{decisionOf}
+use Rattle.access.specs.Access.{addressOf}
+use Rattle.decision.specs.Decision.{decisionOf}
 use Rattle.machine.specs.declared.state.State.{State}
 use Rattle.machine.specs.State.{registerOf, specialOf, refusalOf}
 use Rattle.machine.specs.Apply.{Machine, Span, span, applyOf}

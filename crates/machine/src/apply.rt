@@ -31,7 +31,7 @@ fn jump(c: Special, target: u32) -> Special
 fn advance(c: Special) -> Special
     ensures { λ r. ⌜ r ≡ Spec.advanceOf c ⌝ }
 {
-    jump(c, effect::branch::slot(c.next_pc))
+    jump(c, branch::slot(c.next_pc))
 }
 
 fn pair(c: Special, hi: u32, lo: u32) -> Special

@@ -27,7 +27,7 @@ impl State {
     {
         let mut s = self;
         s.pc = self.next_pc;
-        s.next_pc = effect::branch::slot(self.next_pc);
+        s.next_pc = branch::slot(self.next_pc);
         s.ll = false;
         s
     }

@@ -45,7 +45,7 @@ pub(crate) fn effect_at(c: Special, registers: &[u32; 32], memory: &[u8]) -> Eff
     let w = word::bytes::load32(memory, at);
     match reader::read(w) {
         Reading::NoInstruction => Effect::Exit(effect::exit::NO_INSTRUCTION),
-        Reading::Legal(i) => effect::decision::decide(
+        Reading::Legal(i) => decision::decide(
             i,
             register(registers, i.rs),
             register(registers, i.rt),

@@ -6,8 +6,8 @@ use lib.ListN.{length}
 use denote.Ref.{now}
 use Rattle.isa.specs.declared.kind.Instruction.{Instruction}
 use Rattle.isa.proofs.RoundTrip.{Operands}
-use Rattle.effect.specs.Effect.{decisionOf}
-use Rattle.effect.proofs.Sound.{exits, decision-performable}
+use Rattle.decision.specs.Decision.{decisionOf}
+use Rattle.decision.proofs.Sound.{exits, decision-performable}
 use Rattle.machine.specs.declared.state.State.{State}
 use Rattle.machine.specs.State.{registerOf, specialOf, joinOf, Words}
 use Rattle.machine.proofs.Valid.{regular, apply-lawful}
