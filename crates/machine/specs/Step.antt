@@ -19,7 +19,7 @@ use Rattle.machine.specs.declared.state.State.{State}
 use Rattle.machine.specs.State.{registerOf, specialOf, refusalOf}
 use Rattle.machine.specs.Apply.{Machine, Span, span, applyOf}
 
--- what an instruction does in a state, with n bytes of memory: 72 clauses in crate effect, decided by GPR[rs] and GPR[rt]
+-- what an instruction does in a state, with n bytes of memory: 72 clauses, joined in crate decision, decided by GPR[rs] and GPR[rt]
 unfoldable pub effectOf : Instruction → State → ℕ → Effect
 effectOf i s n = decisionOf i (registerOf (s .registers) (i .rs)) (registerOf (s .registers) (i .rt)) (specialOf s) n
 
