@@ -1,13 +1,14 @@
 -- The theorems about step, run and resume on bytes: what a refused call leaves, and that the others do what the machine does.
 use Prim.Native.Nat.{ℕ, _<_, _≤_}
 use mathlib.Core.Path.{_≡_, refl, sym, ap, _∙_}
-use mathlib.Core.Bool.{Bool, true, false, cond}
+use mathlib.Core.Bool.{Bool, true, false}
 use mathlib.Core.List.{List}
 use mathlib.Core.Logic.{⊎-elim}
 use native.Mathlib.Omega.{arith}
-use lib.Dec.{eqb, ltb}
+use lib.Dec.{ltb}
 use lib.ListN.{length}
-use borrow.Author.Tests.{eqb-true, eqb-false, ne-eqb, lt-ltb, le-ltb}
+use borrow.Author.Tests.{ne-eqb, lt-ltb, le-ltb}
+use Rattle.word.proofs.Choice.{by-zero}
 use Rattle.machine.specs.declared.state.State.{State}
 use Rattle.machine.specs.State.{refusalOf, longest, Bytes}
 use Rattle.machine.specs.Step.{Outcome, outcome, stepOf}
@@ -125,12 +126,6 @@ module _ (b m : List ℕ) (r : Decoded) (given : r ≡ readOf b (length m)) wher
 
 -- ---- the calls do what the machine does, refused or not
 
--- by whether the machine refuses
-module _ {A : Type 0} where
-  chosen : (k : ℕ) (t : Bool) → eqb k 0 ≡ t → (x y : A) → ((k ≡ 0 → ⊥) → y ≡ x) → cond t x y ≡ x
-  chosen k true e x y h = refl
-  chosen k false e x y h = h (eqb-false k 0 e)
-
 module _ (b m : List ℕ) (g : Bytes b) (e : isState b ≡ true) where
   abbrev refusal : ℕ
   refusal = refusalOf (stateOf b) (length m)
@@ -142,7 +137,7 @@ module _ (b m : List ℕ) (g : Bytes b) (e : isState b ≡ true) where
   call-as : (o : Outcome) → ((refusal ≡ 0 → ⊥) → outcome refusal (stateOf b) m ≡ o) → callOf b m o ≡ answered o
   unfolding callOf
   call-as o h =
-      rw same-refusal (chosen refusal (eqb refusal 0) refl _ _ (λ n. rw (← h n, bytes-state b g e)))
+      rw same-refusal (by-zero (λ r. r ≡ answered o) refusal (λ _. refl) (λ n. rw (← h n, bytes-state b g e)))
 
   pub step-call : stepCall b m ≡ answered (stepOf (stateOf b) m)
   step-call = call-as (stepOf (stateOf b) m) (step-refused (stateOf b) m refusal refl)
@@ -153,7 +148,7 @@ module _ (b m : List ℕ) (g : Bytes b) (e : isState b ≡ true) where
   pub run-call : (budget : ℕ) → runCall b m budget ≡ runAnswered (runOf (stateOf b) m budget)
   unfolding runCall
   run-call budget =
-      rw same-refusal (chosen refusal (eqb refusal 0) refl _ _ (λ n. rw (← run-refused (stateOf b) m budget refusal refl n, bytes-state b g e)))
+      rw same-refusal (by-zero (λ r. r ≡ runAnswered (runOf (stateOf b) m budget)) refusal (λ _. refl) (λ n. rw (← run-refused (stateOf b) m budget refusal refl n, bytes-state b g e)))
 
 -- ---- an exit and a refusal leave every byte
 
@@ -162,15 +157,13 @@ module _ (b m : List ℕ) (g : Bytes b) where
   abbrev Leaves : Answer → Type 0
   Leaves r = (r .number ≡ 0 → ⊥) → (r .state ≡ b) × (r .memory ≡ m)
 
-  left-by : (k : ℕ) → k ≡ callRefusal b (length m) → (t : Bool) → eqb k 0 ≡ t → (o : Outcome) → Leaving (stateOf b) m o → Leaves (cond t (answered o) (answer k b m))
-  left-by k q true e o h n =
-      let w = call-state b (length m) (sym q ∙ eqb-true k 0 e) in
-      (ap (λ x. bytesOf (x .state)) (h n) ∙ bytes-state b g w, ap (λ x. x .memory) (h n))
-  left-by k q false e o h n = (refl, refl)
+  left-as : (o : Outcome) → Leaving (stateOf b) m o → isState b ≡ true → Leaves (answered o)
+  left-as o h e n = (ap (λ x. bytesOf (x .state)) (h n) ∙ bytes-state b g e, ap (λ x. x .memory) (h n))
 
   call-leaves : (o : Outcome) → Leaving (stateOf b) m o → Leaves (callOf b m o)
   unfolding callOf
-  call-leaves o h = left-by (callRefusal b (length m)) refl (eqb (callRefusal b (length m)) 0) refl o h
+  call-leaves o h =
+      by-zero Leaves (callRefusal b (length m)) (λ z. left-as o h (call-state b (length m) z)) (λ _ _. (refl, refl))
 
   pub step-call-leaves : (stepCall b m .number ≡ 0 → ⊥) → (stepCall b m .state ≡ b) × (stepCall b m .memory ≡ m)
   step-call-leaves = call-leaves (stepOf (stateOf b) m) (exit-leaves (stateOf b) m)
@@ -188,10 +181,7 @@ module _ (b m : List ℕ) (g : Bytes b) where
       let k = run-numbers (stateOf b) m (state-typed b g) h budget (sym (same-refusal b m g e) ∙ z) in
       ⊎-elim (λ y. absurd (n y)) (λ y. absurd (omega (arith, y .0, l))) k
 
-  run-by : Bytes m → (budget k : ℕ) → k ≡ callRefusal b (length m) → (t : Bool) → eqb k 0 ≡ t → Unrun (cond t (runAnswered (runOf (stateOf b) m budget)) (runAnswer k 0 b m))
-  run-by h budget k q true e = ran h budget (sym q ∙ eqb-true k 0 e)
-  run-by h budget k q false e = λ _ _. (refl, (refl, refl))
-
   pub run-call-leaves : Bytes m → (budget : ℕ) → (runCall b m budget .number ≡ 0 → ⊥) → runCall b m budget .number < 40 → (runCall b m budget .steps ≡ 0) × ((runCall b m budget .state ≡ b) × (runCall b m budget .memory ≡ m))
   unfolding runCall
-  run-call-leaves h budget = run-by h budget (callRefusal b (length m)) refl (eqb (callRefusal b (length m)) 0) refl
+  run-call-leaves h budget =
+      by-zero Unrun (callRefusal b (length m)) (ran h budget) (λ _ _ _. (refl, (refl, refl)))

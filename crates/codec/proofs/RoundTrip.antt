@@ -8,7 +8,7 @@ use lib.Dec.{eqb, ltb}
 use lib.ListN.{length, getD, take, length-append, List·getD-append}
 use lib.Seq.{take-all, take-at, getD-append-add}
 use borrow.Author.Tests.{eqb-true, eqb-false, ltb-true, lt-ltb}
-use Rattle.decision.proofs.Sound.{both}
+use Rattle.word.proofs.Choice.{both}
 use Rattle.machine.specs.declared.state.State.{State}
 use Rattle.machine.specs.State.{Typed, Bytes}
 use Rattle.codec.specs.Bytes.{flatOf, bitOf, othersOf, wordsOf, bytesOf, wordAt, wordsAt, stateOf, isState, encoded, encodedOf}

@@ -80,7 +80,7 @@ pub fn decode(bytes: &[u8]) -> Decoded
         }
     } else {
         Decoded {
-            number: crate::REFUSED,
+            number: machine::state::STATE,
             state: blank(),
         }
     }

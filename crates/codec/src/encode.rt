@@ -45,7 +45,7 @@ pub fn encode(s: State, bytes: &mut [u8]) -> u32
     ensures { λ n. ⌜ Spec.encoded n (now (bytes .exit)) ≡ Spec.encodedOf s (now (bytes .entry)) ⌝ }
 {
     if bytes.len() != crate::LENGTH {
-        return crate::REFUSED;
+        return machine::state::STATE;
     }
     let registers = s.registers;
     put_registers(registers, bytes);

@@ -4,5 +4,3 @@ pub mod encode;
 
 // The bytes of a state: 41 words.
 pub const LENGTH: usize = 164;
-// The refusal of bytes that are no state.
-pub const REFUSED: u32 = 17;

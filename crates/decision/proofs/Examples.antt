@@ -2,7 +2,6 @@
 use Prim.Native.Nat.{ℕ}
 use mathlib.Core.Path.{_≡_, refl}
 use Rattle.isa.specs.declared.kind.Multiply.the-variants.{Div}
-use Rattle.effect.specs.declared.effect.Effect.{Effect}
 use Rattle.effect.specs.declared.effect.Effect.the-variants.{Pair}
 use Rattle.arithmetic.specs.Arithmetic.{multiplyOf, divided}
 use Rattle.word.specs.Number.{signedOf}

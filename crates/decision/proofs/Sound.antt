@@ -2,7 +2,7 @@
 use Prim.Native.Nat.{ℕ, _+_, _*_, _-_, _%_, _^_, _≤_, _<_}
 use mathlib.Core.Path.{_≡_, refl}
 use mathlib.Core.Logic.{⊎-elim}
-use mathlib.Core.Bool.{Bool, true, false, cond, not, _&&_, false≢true}
+use mathlib.Core.Bool.{Bool, true, false, cond, not, _&&_}
 use lib.IntN.{ℤ, _*ℤ_}
 use lib.Signed.{quotZ, remZ, shrZ}
 use native.Mathlib.Omega.{arith}
@@ -37,6 +37,7 @@ use Rattle.isa.specs.declared.kind.System.the-variants.{Syscall, Break, Rfe, Mf
 use Rattle.isa.specs.declared.kind.Kind.{Kind}
 use Rattle.isa.specs.declared.kind.Kind.the-variants as K
 use Rattle.effect.specs.declared.effect.Special.{Special}
+use Rattle.word.proofs.Choice.{by-test, both}
 use Rattle.effect.specs.declared.effect.Effect.{Effect}
 use Rattle.effect.specs.declared.effect.Effect.the-variants.{Exit, Advance, Write, Pair, Jump, Link}
 use Rattle.arithmetic.specs.Arithmetic.{aluOf, immediateOf, shiftOf, multiplyOf, bit, checked, product, divided, shiftedLeft, shiftedRight, shiftedSigned}
@@ -51,8 +52,7 @@ use Rattle.effect.specs.Sound.{Sound, Performable, Reach, Register, Word, Align
 
 module _ {n at w : ℕ} where
   pub either : (t : Bool) {x y : Effect} → (t ≡ true → Sound x n at w) → Sound y n at w → Sound (cond t x y) n at w
-  either true p q = p refl
-  either false p q = q
+  either t p q = by-test (λ e. Sound e n at w) t p (λ _. q)
 
   pub exits : (e : ℕ) → leb 40 e ≡ true → leb e 52 ≡ true → Sound (Exit e) n at w
   exits e l h = record { keeps = (leb-true 40 e l, leb-true e 52 h) }
@@ -154,10 +154,6 @@ module _ {n at w rd a b : ℕ} (h : Register rd) (ha : Word a) (hb : Word b) whe
     multiply-sound Mtlo = pairs hh ha
 
 -- ---- accesses
-
-pub both : (p q : Bool) → p && q ≡ true → (p ≡ true) × (q ≡ true)
-both true q e = (refl, e)
-both false q e = absurd (false≢true e)
 
 module _ {n : ℕ} where
   reach : (w a : ℕ) → reaches w a n ≡ true → Reach a w n a w
@@ -276,8 +272,7 @@ trap-sound Teqi a b v = traps _
 trap-sound Tnei a b v = traps _
 
 word-either : (t : Bool) {x y : ℕ} → Word x → Word y → Word (cond t x y)
-word-either true h k = h
-word-either false h k = k
+word-either t h k = by-test Word t (λ _. h) (λ _. k)
 
 control-below : {s : Special} → Regular s → (d : ℕ) → Word (controlOf s d)
 unfolding controlOf

@@ -1,12 +1,12 @@
 -- The theorems about a resume: what it answers, and what it leaves and keeps.
 use Prim.Native.Nat.{ℕ, _^_, _<_}
 use mathlib.Core.Path.{_≡_, refl}
-use mathlib.Core.Bool.{Bool, true, false, cond}
+use mathlib.Core.Bool.{true, false}
 use mathlib.Core.List.{List}
-use lib.Dec.{eqb}
 use lib.ListN.{length}
 use native.Mathlib.Omega.{arith}
-use borrow.Author.Tests.{eqb-false, ne-eqb}
+use borrow.Author.Tests.{ne-eqb}
+use Rattle.word.proofs.Choice.{by-test, by-zero}
 use Rattle.effect.specs.declared.effect.Effect.{Effect}
 use Rattle.branch.specs.Branch.{slotOf}
 use Rattle.machine.specs.declared.state.State.{State}
@@ -39,19 +39,11 @@ module _ (s : State) (m : List ℕ) where
 
 -- what holds of the resumed state, and of the answer unchanged, holds of the resume
 module _ (P : Outcome → Type 0) (s : State) (m : List ℕ) where
-  served : (t : Bool) → isServed (stepOf s m .number) ≡ t → (isServed (stepOf s m .number) ≡ true → P (outcome 0 (resumedOf s) m)) → P (outcome 19 s m) → P (cond t (outcome 0 (resumedOf s) m) (outcome 19 s m))
-  served true e p q = p e
-  served false e p q = q
-
-  chosen : (k : ℕ) (u : Bool) {x : Outcome} → eqb k 0 ≡ u → P x → ((k ≡ 0 → ⊥) → P (outcome k s m)) → P (cond u x (outcome k s m))
-  chosen k true e p q = p
-  chosen k false e p q = q (eqb-false k 0 e)
-
   pub by-resume : (isServed (stepOf s m .number) ≡ true → P (outcome 0 (resumedOf s) m)) → ((k : ℕ) → (k ≡ 0 → ⊥) → P (outcome k s m)) → P (resumeOf s m)
   unfolding resumeOf
   by-resume p q =
-      chosen (refusalOf s (length m)) (eqb (refusalOf s (length m)) 0) refl
-      (served (isServed (stepOf s m .number)) refl p (q 19 (λ e. omega (arith, e))))
+      by-zero P (refusalOf s (length m))
+      (λ _. by-test P (isServed (stepOf s m .number)) p (λ _. q 19 (λ e. omega (arith, e))))
       (q (refusalOf s (length m)))
 
 slot-word : (a : ℕ) → slotOf a < 2 ^ 32

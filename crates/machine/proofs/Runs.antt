@@ -8,6 +8,7 @@ use native.Mathlib.Omega.{arith}
 use lib.Dec.{eqb}
 use lib.ListN.{length}
 use borrow.Author.Tests.{eqb-true, eqb-false, ne-eqb}
+use Rattle.word.proofs.Choice.{by-zero}
 use Rattle.effect.specs.declared.effect.Special.{Special}
 use Rattle.effect.specs.declared.effect.Effect.{Effect}
 use Rattle.machine.specs.declared.state.State.{State}
@@ -72,29 +73,20 @@ module _ (s : State) (m : List ℕ) (b : ℕ) where
 
 -- ---- the repetition
 
--- by whether a number is 0
-module _ (P : Course → Type 0) (k : ℕ) {x y : Course} where
-  chosen : (t : Bool) → eqb k 0 ≡ t → (k ≡ 0 → P x) → ((k ≡ 0 → ⊥) → P y) → P (cond t x y)
-  chosen true e p q = p (eqb-true k 0 e)
-  chosen false e p q = q (eqb-false k 0 e)
-
-  by-number : (k ≡ 0 → P x) → ((k ≡ 0 → ⊥) → P y) → P (cond (eqb k 0) x y)
-  by-number p q = chosen (eqb k 0) refl p q
-
 -- what every step keeps, a run keeps
 module _ (P : State → List ℕ → Type 0) (keep : (s : State) (m : List ℕ) → P s m → P (stepOf s m .machine .state) (stepOf s m .machine .memory)) where
   repeat-keeps : (n : ℕ) (s : State) (m : List ℕ) → P s m → P (repeatOf n s m .machine .state) (repeatOf n s m .machine .memory)
   unfolding repeatOf
   repeat-keeps zero s m p = p
   repeat-keeps (suc n) s m p =
-      by-number (λ r. P (r .machine .state) (r .machine .memory)) (stepOf s m .number)
+      by-zero (λ (r : Course). P (r .machine .state) (r .machine .memory)) (stepOf s m .number)
       (λ _. repeat-keeps n (stepOf s m .machine .state) (stepOf s m .machine .memory) (keep s m p))
       (λ _. keep s m p)
 
   pub run-keeps : (n : ℕ) (s : State) (m : List ℕ) → P s m → P (runOf s m n .machine .state) (runOf s m n .machine .memory)
   unfolding runOf
   run-keeps n s m p =
-      by-number (λ r. P (r .machine .state) (r .machine .memory)) (refusalOf s (length m)) (λ _. repeat-keeps n s m p) (λ _. p)
+      by-zero (λ (r : Course). P (r .machine .state) (r .machine .memory)) (refusalOf s (length m)) (λ _. repeat-keeps n s m p) (λ _. p)
 
 -- the total: the whole budget where the run is still running, and less than it where a step exited
 abbrev Total : ℕ → Course → Type 0
@@ -120,7 +112,7 @@ repeat-total : (n : ℕ) (s : State) (m : List ℕ) → Total n (repeatOf n s m)
 unfolding repeatOf
 repeat-total zero s m = inl (refl, refl)
 repeat-total (suc n) s m =
-    by-number (Total (suc n)) (stepOf s m .number)
+    by-zero (Total (suc n)) (stepOf s m .number)
     (λ _. counted n (repeatOf n (stepOf s m .machine .state) (stepOf s m .machine .memory)) (repeat-total n (stepOf s m .machine .state) (stepOf s m .machine .memory)))
     (λ e. inr (e, omega arith))
 
@@ -132,7 +124,7 @@ repeat-ends : (n : ℕ) (s : State) (m : List ℕ) → Ends (repeatOf n s m)
 unfolding repeatOf
 repeat-ends zero s m = λ e. absurd (e refl)
 repeat-ends (suc n) s m =
-    by-number Ends (stepOf s m .number)
+    by-zero Ends (stepOf s m .number)
     (λ _. repeat-ends n (stepOf s m .machine .state) (stepOf s m .machine .memory))
     (λ e _. rw (exit-leaves s m e))
 
@@ -173,7 +165,7 @@ module _ (s : State) (m : List ℕ) where
   -- by whether it is refused
   by-refusal : (P : Course → Type 0) (n : ℕ) → (refusalOf s (length m) ≡ 0 → P (repeatOf n s m)) → ((k : ℕ) → k ≡ refusalOf s (length m) → (k ≡ 0 → ⊥) → P (course k 0 s m)) → P (runOf s m n)
   unfolding runOf
-  by-refusal P n p q = by-number P (refusalOf s (length m)) p (q (refusalOf s (length m)) refl)
+  by-refusal P n p q = by-zero P (refusalOf s (length m)) p (q (refusalOf s (length m)) refl)
 
   -- budget 0 completes none and says still running
   pub run-zero : refusalOf s (length m) ≡ 0 → runOf s m 0 ≡ course 0 0 s m

@@ -5,10 +5,11 @@ use mathlib.Core.Bool.{Bool, true, false, cond, true≢false}
 use mathlib.Core.List.{List}
 use mathlib.Core.Logic.{⊎-elim, _⊎_, inl, inr}
 use native.Mathlib.Omega.{arith}
-use lib.Dec.{eqb, leb, ltb}
+use lib.Dec.{leb, ltb}
 use lib.ListN.{length, getD}
-use borrow.Author.Tests.{eqb-true, eqb-false, ne-eqb, lt-ltb, le-ltb, le-leb, lt-leb}
+use borrow.Author.Tests.{ne-eqb, lt-ltb, le-ltb, le-leb, lt-leb}
 use Rattle.word.specs.Bytes.{loadOf, storeOf}
+use Rattle.word.proofs.Choice.{by-zero}
 use Rattle.word.proofs.Memory.{store-length, store-below, store-above, store-bytes, load-lt}
 use Rattle.isa.specs.declared.kind.Instruction.{Instruction}
 use Rattle.isa.specs.declared.reading.Reading.{Reading}
@@ -90,13 +91,9 @@ apply-exit (Return x) s m n = absurd (n refl)
 
 -- what holds of the step tried and of the answer unchanged holds of the step
 module _ (P : Outcome → Type 0) (s : State) (m : List ℕ) where
-  chosen : (k : ℕ) (t : Bool) → eqb k 0 ≡ t → (k ≡ 0 → P (tryOf s m)) → ((k ≡ 0 → ⊥) → P (outcome k s m)) → P (cond t (tryOf s m) (outcome k s m))
-  chosen k true e p q = p (eqb-true k 0 e)
-  chosen k false e p q = q (eqb-false k 0 e)
-
   pub by-refusal : (refusalOf s (length m) ≡ 0 → P (tryOf s m)) → ((k : ℕ) → (k ≡ 0 → ⊥) → P (outcome k s m)) → P (stepOf s m)
   unfolding stepOf
-  by-refusal p q = chosen (refusalOf s (length m)) (eqb (refusalOf s (length m)) 0) refl p (q (refusalOf s (length m)))
+  by-refusal p q = by-zero P (refusalOf s (length m)) p (q (refusalOf s (length m)))
 
 -- the step, by what the code finds
 module _ (s : State) (m : List ℕ) where

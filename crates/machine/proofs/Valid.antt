@@ -10,13 +10,14 @@ use lib.Seq.{getD-set-other}
 use borrow.Author.Tests.{eqb-true, eqb-false, ltb-true, ne-eqb, lt-ltb}
 use Rattle.word.specs.Number.{signedOf, extendOf}
 use Rattle.word.specs.Bytes.{loadOf}
+use Rattle.word.proofs.Choice.{by-test, both}
 use Rattle.word.proofs.Numbers.{wrap-below}
 use Rattle.word.proofs.Memory.{load-lt, set-every}
 use Rattle.effect.specs.declared.effect.Special.{Special}
 use Rattle.effect.specs.declared.effect.Effect.{Effect}
 use Rattle.effect.specs.declared.effect.Effect.the-variants.{Exit, Advance, Write, Pair, Jump, Link, LoadByte, LoadHalf, LoadWord, LoadLinked, StoreByte, StoreHalf, StoreWord, StoreLinked, Control, Return}
 use Rattle.effect.specs.Sound.{Sound, Performable, Word, Aligned, Regular}
-use Rattle.decision.proofs.Sound.{both, slot-aligned}
+use Rattle.decision.proofs.Sound.{slot-aligned}
 use Rattle.machine.specs.declared.state.State.{State}
 use Rattle.machine.specs.State.{registerOf, specialOf, joinOf, isLawful, Words, Typed, Bytes}
 use Rattle.machine.specs.Apply.{special, putOf, jumpOf, advanceOf, pairOf, linkedOf, statusOf, controlledOf, loadedOf, appliedOf, applyOf}
@@ -148,8 +149,7 @@ module _ {c : Special} (g : Regular c) where
   return-regular h = others-regular (g .hi) (g .lo) (g .bad) h (g .cause) (g .epc)
 
   either : (t : Bool) {x y : Special} → Regular x → Regular y → Regular (cond t x y)
-  either true p q = p
-  either false p q = q
+  either t p q = by-test Regular t (λ _. p) (λ _. q)
 
   control-regular : (r : ℕ) {v : ℕ} → Word v → Regular (controlledOf c r v)
   unfolding controlledOf

@@ -22,7 +22,7 @@ course k n s m = record { number = k; steps = n; machine = record { state = s; m
 abbrev pub halted : Outcome → Course
 halted o = record { number = o .number; steps = 0; machine = o .machine }
 
--- after n steps more
+-- the same, begun n steps earlier
 abbrev pub later : ℕ → Course → Course
 later n r = record { number = r .number; steps = n + r .steps; machine = r .machine }
 
