@@ -20,7 +20,7 @@ use Rattle.machine.proofs.Resumes.{resume-refused, resume-leaves}
 use Rattle.codec.specs.declared.decode.Decoded.{Decoded}
 use Rattle.codec.specs.Bytes.{isState, stateOf, bytesOf, decoded, decodedOf, encoded, encodedOf}
 use Rattle.codec.proofs.RoundTrip.{state-length, state-typed, bytes-state}
-use Rattle.cc100.specs.Calls.{callRefusal, readOf, Answer, answer, answered, callOf, stepCall, resumeCall, RunAnswer, runAnswer, runAnswered, runCall}
+use Rattle.cc100.specs.Calls.{callRefusal, readStateOf, Answer, answer, answered, callOf, stepCall, resumeCall, RunAnswer, runAnswer, runAnswered, runCall}
 
 -- ---- what the calls read, by what the code finds
 
@@ -40,23 +40,23 @@ module _ (b : List ℕ) where
   decoded-state e = rw e
 
 module _ (b : List ℕ) (n : ℕ) (d : Decoded) (given : d ≡ decodedOf b) where
-  read-as : (k : ℕ) → k ≡ callRefusal b n → decoded k (d .state) ≡ readOf b n
+  read-as : (k : ℕ) → k ≡ callRefusal b n → decoded k (d .state) ≡ readStateOf b n
   read-as k e = rw (e, given)
 
   not-state : (d .number ≡ 0 → ⊥) → isState b ≡ false
   not-state e = no-state-by b (isState b) refl (rw given at e)
 
-  pub read-state : d .number ≡ 0 → (k : ℕ) → k ≡ refusalOf (d .state) n → decoded k (d .state) ≡ readOf b n
+  pub read-state : d .number ≡ 0 → (k : ℕ) → k ≡ refusalOf (d .state) n → decoded k (d .state) ≡ readStateOf b n
   unfolding callRefusal
   read-state z k e =
       let t : isState b ≡ true = state-by b (isState b) refl (rw given at z) in
       read-as k (rw (e, given, decoded-state b t, t))
 
-  pub read-too-long : (d .number ≡ 0 → ⊥) → longest < n → decoded 1 (d .state) ≡ readOf b n
+  pub read-too-long : (d .number ≡ 0 → ⊥) → longest < n → decoded 1 (d .state) ≡ readStateOf b n
   unfolding callRefusal
   read-too-long e h = read-as 1 (rw (not-state e, lt-ltb longest n h))
 
-  pub read-no-state : (d .number ≡ 0 → ⊥) → n ≤ longest → d ≡ readOf b n
+  pub read-no-state : (d .number ≡ 0 → ⊥) → n ≤ longest → d ≡ readStateOf b n
   unfolding callRefusal decodedOf
   read-no-state e h = read-as (d .number) (rw (given, not-state e, le-ltb longest n h))
 
@@ -81,7 +81,7 @@ encode-bytes s b x k e h = ap (λ o. o .bytes) h ∙ rw (state-length b e)
 
 -- ---- the calls, by what the code finds; f is what the machine does, step or resume
 
-module _ (b m : List ℕ) (r : Decoded) (given : r ≡ readOf b (length m)) where
+module _ (b m : List ℕ) (r : Decoded) (given : r ≡ readStateOf b (length m)) where
   number : r .number ≡ callRefusal b (length m)
   number = ap (λ x. x .number) given
 

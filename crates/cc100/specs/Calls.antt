@@ -16,8 +16,8 @@ unfoldable pub callRefusal : List ℕ → ℕ → ℕ
 callRefusal b n = cond (isState b) (refusalOf (stateOf b) n) (cond (ltb longest n) 1 17)
 
 -- the refusal that is due, with the state that the bytes stand for; the blank state where they stand for none
-abbrev pub readOf : List ℕ → ℕ → Decoded
-readOf b n = decoded (callRefusal b n) (decodedOf b .state)
+abbrev pub readStateOf : List ℕ → ℕ → Decoded
+readStateOf b n = decoded (callRefusal b n) (decodedOf b .state)
 
 -- ---- step and resume
 
