@@ -2,15 +2,16 @@
 # make test: the test command: formatting, the archive and its host tests, proofs, must-fail edits, programs.
 # make archive: the calls for C, as a library to link with.
 # make host: the example host program.
-# make host-test: the calls from C and the example host, tested.
+# make host-test: the calls from C, the example host and the verdict program, tested.
 # make bench: speed beside plain C.
 CC = cc
 CFLAGS = -O2 -Wall -Wextra -Werror -Iinclude -Ibench
 ARCHIVE = target/libcc100.a
+VERDICT = target/bin/verdict
 # Each of these is compiled by itself, so that what two calls share is inlined into both, and begins a cache line, so that its speed does
 # not hang on where a host's linker puts it.
-CALLS = cc100_instruction cc100_step cc100_run cc100_resume
-PLAIN = bench/plain_read.c bench/plain_step.c
+CALLS = cc100_instruction cc100_step cc100_run cc100_resume cc100_check
+PLAIN = bench/plain_read.c bench/plain_step.c bench/plain_check.c
 
 .PHONY: sample test bench archive host host-test
 
@@ -27,7 +28,7 @@ test:
 
 archive:
 	@mkdir -p target/archive
-	@rt check $(CALLS) > target/archive/check.log 2>&1 || { cat target/archive/check.log; exit 1; }
+	@rt check $(CALLS) verdict > target/archive/check.log 2>&1 || { cat target/archive/check.log; exit 1; }
 	@for c in $(CALLS); do rt staticlib $$c > target/archive/$$c.log 2>&1 || { cat target/archive/$$c.log; exit 1; }; done
 	@cd target/archive && rm -f *.o && for c in $(CALLS); do ar x ../staticlib/lib$$c.a && objcopy --set-section-alignment '.text.*=64' $$c.o; done
 	@rm -f target/libcc100.a && ar rcs target/libcc100.a target/archive/*.o
@@ -35,18 +36,23 @@ archive:
 # Made anew where anything that it is made from changed; another archive (ARCHIVE=FILE) is taken as it is.
 target/libcc100.a: archive
 
+# The program is built with the archive; another one (VERDICT=FILE) is taken as it is.
+target/bin/verdict: archive
+
 host: $(ARCHIVE)
 	@mkdir -p target/host
 	@$(CC) $(CFLAGS) -o target/host/host host/host.c $(ARCHIVE)
 	@echo "target/host/host is built; try: target/host/host samples/m.module"
 
-host-test: host
+host-test: host $(VERDICT)
 	@$(CC) $(CFLAGS) -o target/host/test host/test_*.c $(PLAIN) $(ARCHIVE)
-	@target/host/test target/host/host
+	@target/host/test target/host/host $(VERDICT)
 
 bench: $(ARCHIVE)
 	@mkdir -p target/bench
 	@$(CC) $(CFLAGS) -o target/bench/read bench/read.c $(PLAIN) $(ARCHIVE)
 	@$(CC) $(CFLAGS) -o target/bench/run bench/run.c $(PLAIN) $(ARCHIVE)
+	@$(CC) $(CFLAGS) -o target/bench/check bench/check.c $(PLAIN) $(ARCHIVE)
 	@target/bench/read
 	@target/bench/run
+	@target/bench/check

@@ -1,6 +1,9 @@
-/* An example of a host program: runs a report module and hands it figures.
+/* An example of a host program: checks a report module, runs it and hands it figures.
 
        host MODULE
+
+   A module that the checker refuses is not run: this host says the refusal's number and, where it has a place, the word there. One that is
+   accepted, started as below, stays in its own code and data and ends in no exits but Integer Overflow, System Call, Breakpoint and Trap.
 
    The convention between this host and its modules: SYSCALL with code 0 asks for the next figure. The host puts the figure's place in the
    data area, a multiple of 4, into register 8 and the figure into register 9, and resumes the module. When a module asks and no figures
@@ -20,7 +23,6 @@
 
 #define MEMORY_LENGTH 196608u
 #define CODE_BASE 0x10000u
-#define SMALLEST_CODE 16u
 #define LARGEST_CODE 65536u
 #define DATA_BASE 0x20000u
 #define DATA_LENGTH 64u
@@ -60,12 +62,42 @@ static size_t load(struct machine *m, const char *path)
         fprintf(stderr, "host: %s is empty\n", path);
     else if (longer)
         fprintf(stderr, "host: %s is longer than %u bytes\n", path, LARGEST_CODE);
-    else if (length < SMALLEST_CODE || (length & (length - 1)))
-        fprintf(stderr, "host: %s has %zu bytes, and a module's length is a power of two from %u to %u\n", path, length, SMALLEST_CODE,
-                LARGEST_CODE);
     else
         return length;
     return 0;
+}
+
+/* What refusals 1 to 16 mean, in their order. */
+static const char *const refusals[] = {
+    "memory is too long",
+    "the code size is not a power of two from 16 to 65,536",
+    "the data size is not a power of two from 4 to 65,536",
+    "the code base is not a multiple of the code size, or the code is not inside memory",
+    "the data base is not a multiple of the data size, or the data is not inside memory",
+    "code and data overlap",
+    "the module's length is not the code size",
+    "no instruction",
+    "MFC0, MTC0, RFE, or BREAK with code 15",
+    "writes register 26 or 27",
+    "JALR with rd = rs, or a linking branch with rs = 31",
+    "load or store without a fitting guard",
+    "JR or JALR without a fitting guard",
+    "branch or jump straight after a branch or jump",
+    "target outside the code, on its last word, or on or just before a load, store, JR or JALR",
+    "the last word but one is not J, JAL, JR or JALR",
+};
+
+/* Whether the module is accepted. Where it is not, that is said. */
+static bool accepted(const struct machine *m, const char *path, size_t length)
+{
+    cc100_verdict v = cc100_check_placed(CODE_BASE, (uint32_t)length, DATA_BASE, DATA_LENGTH, m->memory, sizeof m->memory);
+    if (v.number == CC100_DONE)
+        return true;
+    fprintf(stderr, "host: %s is refused, number %" PRIu32, path, v.number);
+    if (v.place != CC100_NO_PLACE)
+        fprintf(stderr, " at word %" PRIu32 " (0x%08" PRIx32 ")", v.place, cc100_get_word(m->memory + CODE_BASE + 4 * v.place));
+    fprintf(stderr, ": %s\n", refusals[v.number - 1]);
+    return false;
 }
 
 /* In user mode at the first word, registers 26 and 27 as the guards of a module need them. All else is 0. */
@@ -79,26 +111,15 @@ static void start(struct machine *m)
     cc100_set_word(m->state + CC100_STATUS, CC100_STATUS_USER);
 }
 
+/* The numbers that a run of an accepted module can end in. */
 static const char *in_words(uint32_t number)
 {
     switch (number) {
     case CC100_DONE: return "still running, and its budget is spent";
-    case CC100_REFUSED_MEMORY: return "refused, memory is too long";
-    case CC100_REFUSED_STATE: return "refused, not a lawful state";
-    case CC100_REFUSED_RESUME: return "refused, nothing to resume from";
     case CC100_EXIT_INTEGER_OVERFLOW: return "Integer Overflow";
-    case CC100_EXIT_ADDRESS: return "Address, a jump to an address that is not a multiple of 4";
-    case CC100_EXIT_LOAD: return "Load, not aligned or outside memory";
-    case CC100_EXIT_STORE: return "Store, not aligned or outside memory";
-    case CC100_EXIT_PRIVILEGED_DATA: return "Privileged Data in user mode";
-    case CC100_EXIT_PRIVILEGED_INSTRUCTION: return "Privileged Instruction in user mode";
     case CC100_EXIT_SYSTEM_CALL: return "System Call that this host does not know";
     case CC100_EXIT_BREAKPOINT: return "Breakpoint";
     case CC100_EXIT_TRAP: return "Trap";
-    case CC100_EXIT_NO_INSTRUCTION: return "no instruction";
-    case CC100_EXIT_FETCH: return "fetch outside memory";
-    case CC100_EXIT_DEBUG_BREAK: return "BREAK with code 15";
-    case CC100_EXIT_STOP_CORES: return "SYSCALL with code 15 in kernel mode";
     default: return "a number that this host does not know";
     }
 }
@@ -162,10 +183,8 @@ int main(int count, char **arguments)
         return 2;
     }
     size_t length = load(&m, arguments[1]);
-    if (length == 0)
+    if (length == 0 || !accepted(&m, arguments[1], length))
         return 2;
-    /* The checker's place (cc100_check_placed, in a later release). Until then a module runs unchecked: it can reach all of m.memory,
-       its own code too, and can end in any of the exits. */
     printf("%zu words of code at 0x%x, %u bytes of data at 0x%x\n", length / 4, CODE_BASE, DATA_LENGTH, DATA_BASE);
     start(&m);
     return run(&m);

@@ -76,9 +76,6 @@ const struct drawing drawings[KINDS] = {
     {"XORI", 0x38000000, RS, RT, 0, 0, CONSTANT},
 };
 
-#define MFC0 29
-#define MTC0 32
-
 int control_register(uint32_t kind) { return kind == MFC0 || kind == MTC0; }
 
 uint32_t random_word_of(uint32_t kind)
@@ -87,4 +84,10 @@ uint32_t random_word_of(uint32_t kind)
     const struct drawing *d = &drawings[kind - 1];
     uint32_t rd = control_register(kind) ? control[next_random() % 4] << 11 : next_random() & d->rd;
     return d->fixed | rd | (next_random() & (d->rs | d->rt | d->shift | d->value));
+}
+
+uint32_t word_of(uint32_t kind, uint32_t rs, uint32_t rt, uint32_t rd, uint32_t value)
+{
+    const struct drawing *d = &drawings[kind - 1];
+    return d->fixed | (rs << 21 & d->rs) | (rt << 16 & d->rt) | (rd << 11 & d->rd) | (value * (d->value & -d->value) & d->value);
 }

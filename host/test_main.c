@@ -1,4 +1,4 @@
-/* Tests of the calls from C, and of the example host: test HOST, from the top folder. */
+/* Tests of the calls from C, of the example host and of the verdict program: test HOST VERDICT, from the top folder. */
 #include <inttypes.h>
 #include <signal.h>
 #include <stdarg.h>
@@ -69,8 +69,8 @@ static void touched(int number)
 
 int main(int count, char **arguments)
 {
-    if (count != 2) {
-        fprintf(stderr, "usage: test HOST\n");
+    if (count != 3) {
+        fprintf(stderr, "usage: test HOST VERDICT\n");
         return 2;
     }
     signal(SIGSEGV, touched);
@@ -85,7 +85,11 @@ int main(int count, char **arguments)
     test_pages();
     test_cases();
     test_random();
+    test_check();
+    test_words();
+    test_modules();
     test_example(arguments[1]);
+    test_verdict(arguments[2]);
     printf("host tests: %lu checks, %lu failed\n", checks, failures);
     return failures != 0;
 }

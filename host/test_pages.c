@@ -13,8 +13,7 @@
 #define SW 0xAC050000u /* SW 5,0(0) */
 #define SC 0xE0050000u /* SC 5,0(0) */
 
-/* A page between two that cannot be touched. */
-static uint8_t *page(size_t size)
+uint8_t *page(size_t size)
 {
     uint8_t *pages = mmap(NULL, 3 * size, PROT_NONE, MAP_PRIVATE | MAP_ANONYMOUS, -1, 0);
     if (pages == MAP_FAILED || mprotect(pages + size, size, PROT_READ | PROT_WRITE) != 0) {

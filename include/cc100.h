@@ -18,12 +18,29 @@ extern "C" {
 #endif
 
 /* Numbers that calls answer: done, refusals as documents 01 and 02 number them, and exits. */
-#define CC100_DONE 0u /* a step completed, a run still running, a resume given, a word written */
+#define CC100_DONE 0u /* a module accepted, a step completed, a run still running, a resume given, a word written */
 
-#define CC100_REFUSED_MEMORY 1u       /* memory is longer than CC100_LONGEST_MEMORY */
-#define CC100_REFUSED_STATE 17u       /* no lawful state: see below */
-#define CC100_REFUSED_INSTRUCTION 18u /* an instruction to be written has a field too wide or not legal */
-#define CC100_REFUSED_RESUME 19u      /* a resume where the step does not end in 40, 46, 47 or 48 */
+#define CC100_REFUSED_MEMORY 1u         /* memory is longer than CC100_LONGEST_MEMORY */
+#define CC100_REFUSED_CODE_SIZE 2u      /* the code size is not a power of two from 16 to 65,536 */
+#define CC100_REFUSED_DATA_SIZE 3u      /* the data size is not a power of two from 4 to 65,536 */
+#define CC100_REFUSED_CODE_AREA 4u      /* the code base is not a multiple of the code size, or the area is not inside memory */
+#define CC100_REFUSED_DATA_AREA 5u      /* the same for data */
+#define CC100_REFUSED_OVERLAP 6u        /* the areas overlap */
+#define CC100_REFUSED_IMAGE_LENGTH 7u   /* the image's length is not the code size */
+#define CC100_REFUSED_NO_INSTRUCTION 8u /* a word is none of the 72 */
+#define CC100_REFUSED_PRIVILEGED 9u     /* MFC0, MTC0, RFE, or BREAK with code 15 */
+#define CC100_REFUSED_BASE_REGISTER 10u /* register 26 or 27 is written */
+#define CC100_REFUSED_LINK 11u          /* JALR with rd = rs, or BLTZAL or BGEZAL with rs = 31 */
+#define CC100_REFUSED_ACCESS 12u        /* an access without fitting guard */
+#define CC100_REFUSED_JUMP 13u          /* JR or JALR without fitting guard */
+#define CC100_REFUSED_SLOT 14u          /* a branch or jump straight after a branch or jump */
+#define CC100_REFUSED_TARGET 15u        /* a direct target outside the code, on its last word, or on or just before an access, JR or JALR */
+#define CC100_REFUSED_END 16u           /* the last word but one is not J, JAL, JR or JALR */
+#define CC100_REFUSED_STATE 17u         /* no lawful state: see below */
+#define CC100_REFUSED_INSTRUCTION 18u   /* an instruction to be written has a field too wide or not legal */
+#define CC100_REFUSED_RESUME 19u        /* a resume where the step does not end in 40, 46, 47 or 48 */
+
+#define CC100_NO_PLACE 0xFFFFFFFFu /* the place of a verdict that names no word */
 
 #define CC100_EXIT_INTEGER_OVERFLOW 40u       /* the sum or difference of ADD, ADDI or SUB does not fit */
 #define CC100_EXIT_ADDRESS 41u                /* JR or JALR to an address that is not a multiple of 4 */
@@ -76,6 +93,12 @@ static inline void cc100_set_word(uint8_t *bytes, uint32_t word)
     bytes[3] = (uint8_t)(word >> 24);
 }
 
+/* What the checker says of a module: `number` is CC100_DONE, which accepts it, or a refusal, 1 to 16. `place` is the index of the word that
+   8 to 16 refuse, and else CC100_NO_PLACE. */
+typedef struct cc100_verdict {
+    uint32_t number, place;
+} cc100_verdict;
+
 /* How a run ended: `number` is CC100_DONE, an exit or a refusal, `steps` the steps completed. */
 typedef struct cc100_ran {
     uint32_t number, steps;
@@ -91,6 +114,18 @@ typedef struct cc100_instruction {
 typedef struct cc100_written {
     uint32_t number, word;
 } cc100_written;
+
+/* Checks a module before it is placed. `image` is its code, words little-endian. The layout is where it is to run: the memory's length, and
+   the base and size of the areas for code and data; docs/REFUSALS.md says what each refusal means.
+   Refuses 1 to 7, in this order, by the layout and the image's length; then by the words from index 0 up, each tried with 8 to 15 in this
+   order; then 16, whose place is that of the last word but one. The image is only read. */
+cc100_verdict cc100_check(uint64_t memory_length, uint32_t code_base, uint32_t code_size, uint32_t data_base, uint32_t data_size,
+                          const uint8_t *image, size_t image_length);
+
+/* Checks a module that is placed: as cc100_check, with the code area of the memory as the image. Memory is only read; its bytes outside
+   that area do not matter. Never refuses by CC100_REFUSED_IMAGE_LENGTH. */
+cc100_verdict cc100_check_placed(uint32_t code_base, uint32_t code_size, uint32_t data_base, uint32_t data_size, const uint8_t *memory,
+                                 size_t memory_length);
 
 /* Takes one step: runs the instruction at PC.
    Refuses, in this order: CC100_REFUSED_MEMORY, CC100_REFUSED_STATE.

@@ -20,13 +20,13 @@ fn link(pc: u32) -> u32
     word::number::sum(pc, 8)
 }
 
-fn relative(pc: u32, offset: u32) -> u32
+pub fn relative(pc: u32, offset: u32) -> u32
     ensures { λ r. ⌜ r ≡ Spec.relativeOf pc offset ⌝ }
 {
     word::number::sum(slot(pc), word::number::extend18(offset % 65536 * 4))
 }
 
-fn region(pc: u32, index: u32) -> u32
+pub fn region(pc: u32, index: u32) -> u32
     ensures { λ r. ⌜ r ≡ Spec.regionOf pc index ⌝ }
 {
     slot(pc) / 268435456 * 268435456 + index % 67108864 * 4

@@ -10,7 +10,8 @@ use lib.ListN.{length}
 use borrow.Author.Tests.{ne-eqb, lt-ltb, le-ltb}
 use Rattle.word.proofs.Choice.{by-zero}
 use Rattle.machine.specs.declared.state.State.{State}
-use Rattle.machine.specs.State.{refusalOf, longest, Bytes}
+use Rattle.word.specs.Bytes.{longest}
+use Rattle.machine.specs.State.{refusalOf, Bytes}
 use Rattle.machine.specs.Step.{Outcome, outcome, stepOf}
 use Rattle.machine.specs.Run.{course, runOf}
 use Rattle.machine.specs.Resume.{resumeOf}

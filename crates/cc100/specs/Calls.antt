@@ -4,7 +4,8 @@ use mathlib.Core.Bool.{cond}
 use mathlib.Core.List.{List}
 use lib.Dec.{eqb, ltb}
 use lib.ListN.{length}
-use Rattle.machine.specs.State.{longest, refusalOf}
+use Rattle.word.specs.Bytes.{longest}
+use Rattle.machine.specs.State.{refusalOf}
 use Rattle.machine.specs.Step.{Outcome, stepOf}
 use Rattle.machine.specs.Run.{Course, runOf}
 use Rattle.machine.specs.Resume.{resumeOf}

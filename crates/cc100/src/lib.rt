@@ -2,7 +2,6 @@
 ghost use mathlib.Core.Path.{_≡_};
 ghost use Rattle.cc100.specs.Calls.{readStateOf};
 use codec::decode::Decoded;
-use machine::state;
 
 // The refusal that is due, memory's before the state's, or 0 and the state that the bytes stand for.
 pub fn read_state(bytes: &[u8], length: usize) -> Decoded
@@ -16,9 +15,9 @@ pub fn read_state(bytes: &[u8], length: usize) -> Decoded
             state: s,
         };
     }
-    if state::LONGEST < length {
+    if word::bytes::LONGEST < length {
         return Decoded {
-            number: state::MEMORY,
+            number: word::bytes::TOO_LONG,
             state: s,
         };
     }

@@ -45,6 +45,7 @@ use Rattle.access.specs.Access.{accessOf, addressOf, reaches, loadIf, storeIf, 
 use Rattle.branch.specs.Branch.{branchOf, branchIf, linkIf, jumpIf, slotOf, linkOf, relativeOf, regionOf}
 use Rattle.trap.specs.Trap.{trapOf, trapIf}
 use Rattle.system.specs.System.{systemOf, controlOf, restored, systemCallOf, breakpointOf, privileged, isUser}
+use Rattle.branch.proofs.Targets.{slot-aligned, relative-aligned, region-aligned}
 use Rattle.decision.specs.Decision.{byKind, decisionOf}
 use Rattle.effect.specs.Sound.{Sound, Performable, Reach, Register, Word, Aligned, Regular}
 
@@ -188,39 +189,9 @@ module _ {n : ℕ} where
 
 -- ---- branches
 
--- a multiple of four of 18 bits stays one when it is extended
-extend-aligned : (x : ℕ) → extendOf 18 (x * 4) % 4 ≡ 0
-extend-aligned x = ⊎-elim low high (lt-or-ge (bitAnd (x * 4) (2 ^ 18 - 1)) (2 ^ 17))
-  where
-    same : bitAnd (x * 4) (2 ^ 18 - 1) ≡ x * 4 % 2 ^ 18
-    same = mask-mod 18 (x * 4)
-
-    low : bitAnd (x * 4) (2 ^ 18 - 1) < 2 ^ 17 → extendOf 18 (x * 4) % 4 ≡ 0
-    low h = rw (← extend-clear 18 (x * 4) (omega arith) h, same) (omega arith)
-
-    high : 2 ^ 17 ≤ bitAnd (x * 4) (2 ^ 18 - 1) → extendOf 18 (x * 4) % 4 ≡ 0
-    high h = rw (← extend-set 18 (x * 4) (omega arith) h, same) (omega arith)
-
-pub slot-aligned : {pc : ℕ} → Aligned pc → Aligned (slotOf pc)
-unfolding slotOf
-slot-aligned (h, k) = (omega arith, omega arith)
-
 link-below : (pc : ℕ) → Word (linkOf pc)
 unfolding linkOf
 link-below pc = omega arith
-
-relative-aligned : {pc : ℕ} (v : ℕ) → Aligned pc → Aligned (relativeOf pc v)
-unfolding relativeOf
-relative-aligned v h =
-    let e : extendOf 18 (v % 2 ^ 16 * 4) % 4 ≡ 0 = extend-aligned (v % 2 ^ 16) in
-    let k : slotOf _ % 4 ≡ 0 = slot-aligned h .1 in
-    (omega arith, omega arith)
-
-region-aligned : {pc : ℕ} (v : ℕ) → Aligned pc → Aligned (regionOf pc v)
-unfolding regionOf
-region-aligned v h =
-    let l : slotOf _ < 2 ^ 32 = slot-aligned h .0 in
-    (omega arith, omega arith)
 
 module _ {n at w pc : ℕ} (hp : Aligned pc) where
   branches : (t : Bool) (v : ℕ) → Sound (branchIf t pc v) n at w

@@ -177,12 +177,9 @@ pub fn class_of(k: Kind) -> Class
     }
 }
 
-pub fn register_written(i: Instruction) -> u32
-    ensures { λ r. ⌜ r ≡ C.registerWritten i ⌝ }
+pub fn named(destination: Destination, i: Instruction) -> u32
+    ensures { λ r. ⌜ r ≡ C.named destination i ⌝ }
 {
-    let kind = i.kind;
-    let class = class_of(kind);
-    let destination = class.destination;
     match destination {
         Destination::Nowhere => 0,
         Destination::FieldRt => i.rt,

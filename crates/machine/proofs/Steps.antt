@@ -8,7 +8,7 @@ use native.Mathlib.Omega.{arith}
 use lib.Dec.{leb, ltb}
 use lib.ListN.{length, getD}
 use borrow.Author.Tests.{ne-eqb, lt-ltb, le-ltb, le-leb, lt-leb}
-use Rattle.word.specs.Bytes.{loadOf, storeOf}
+use Rattle.word.specs.Bytes.{loadOf, storeOf, longest}
 use Rattle.word.proofs.Choice.{by-zero}
 use Rattle.word.proofs.Memory.{store-length, store-below, store-above, store-bytes, load-lt}
 use Rattle.isa.specs.declared.kind.Instruction.{Instruction}
@@ -24,7 +24,7 @@ use Rattle.decision.specs.Decision.{decisionOf}
 use Rattle.effect.specs.Sound.{Sound}
 use Rattle.decision.proofs.Sound.{exits, decision-sound}
 use Rattle.machine.specs.declared.state.State.{State}
-use Rattle.machine.specs.State.{registerOf, specialOf, joinOf, isLawful, refusalOf, longest, Typed, Bytes}
+use Rattle.machine.specs.State.{registerOf, specialOf, joinOf, isLawful, refusalOf, Typed, Bytes}
 use Rattle.machine.specs.Apply.{Machine, machine, Span, span, appliedOf, applyOf, storedOf, Outside}
 use Rattle.machine.specs.Step.{effectOf, readEffect, effectAt, readAccess, accessAt, exitOf, Outcome, outcome, tryOf, stepOf}
 use Rattle.machine.proofs.Valid.{Valid, valid, valid-lawful, typed, apply-valid, apply-zero}

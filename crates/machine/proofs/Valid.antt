@@ -17,7 +17,7 @@ use Rattle.effect.specs.declared.effect.Special.{Special}
 use Rattle.effect.specs.declared.effect.Effect.{Effect}
 use Rattle.effect.specs.declared.effect.Effect.the-variants.{Exit, Advance, Write, Pair, Jump, Link, LoadByte, LoadHalf, LoadWord, LoadLinked, StoreByte, StoreHalf, StoreWord, StoreLinked, Control, Return}
 use Rattle.effect.specs.Sound.{Sound, Performable, Word, Aligned, Regular}
-use Rattle.decision.proofs.Sound.{slot-aligned}
+use Rattle.branch.proofs.Targets.{slot-aligned}
 use Rattle.machine.specs.declared.state.State.{State}
 use Rattle.machine.specs.State.{registerOf, specialOf, joinOf, isLawful, Words, Typed, Bytes}
 use Rattle.machine.specs.Apply.{special, putOf, jumpOf, advanceOf, pairOf, linkedOf, statusOf, controlledOf, loadedOf, appliedOf, applyOf}

@@ -5,6 +5,7 @@ use mathlib.Core.Bool.{Bool, cond, _&&_}
 use mathlib.Core.List.{List}
 use lib.Dec.{eqb, ltb}
 use lib.ListN.{length, getD}
+use Rattle.word.specs.Bytes.{longest}
 use Rattle.effect.specs.declared.effect.Special.{Special}
 use Rattle.effect.specs.Sound.{Word}
 use Rattle.machine.specs.declared.state.State.{State}
@@ -48,10 +49,6 @@ unfoldable pub isLawful : State → Bool
 isLawful s =
     eqb (registerOf (s .registers) 0) 0
     && (eqb (s .pc % 4) 0 && (eqb (s .«next_pc» % 4) 0 && ltb (s .status) (2 ^ 13)))
-
--- 16,777,216 bytes
-abbrev pub longest : ℕ
-longest = 2 ^ 24
 
 -- the refusals that step, run and resume try first, in this order; 0 where neither is due
 unfoldable pub refusalOf : State → ℕ → ℕ

@@ -2,6 +2,7 @@
 ghost use mathlib.Core.Path.{_≡_};
 ghost use Rattle.machine.specs.State as Spec;
 use effect::effect::Special;
+use word::bytes;
 
 // The 32 registers, HI, LO, the program counters, the LL bit, and control registers 8 (bad), 12 (status), 13 (cause) and 14 (epc).
 pub struct State {
@@ -17,12 +18,8 @@ pub struct State {
     pub epc: u32,
 }
 
-// Memory too long.
-pub const MEMORY: u32 = 1;
 // A state that the rules of 17 do not allow.
 pub const STATE: u32 = 17;
-// The longest memory, in bytes.
-pub const LONGEST: usize = 16777216;
 
 impl State {
     fn is_lawful(self) -> bool
@@ -36,8 +33,8 @@ impl State {
     pub fn refusal(self, length: usize) -> u32
         ensures { λ r. ⌜ r ≡ Spec.refusalOf self length ⌝ }
     {
-        if LONGEST < length {
-            return MEMORY;
+        if bytes::LONGEST < length {
+            return bytes::TOO_LONG;
         }
         if self.is_lawful() { 0 } else { STATE }
     }

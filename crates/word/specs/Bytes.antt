@@ -1,5 +1,5 @@
 -- Numbers in memory, little-endian (document 01, Machine), for every width in bytes.
-use Prim.Native.Nat.{ℕ, zero, suc, _+_, _*_, _/_, _%_}
+use Prim.Native.Nat.{ℕ, zero, suc, _+_, _*_, _/_, _%_, _^_}
 use mathlib.Core.List.{List}
 use lib.ListN.{getD, set}
 
@@ -12,3 +12,7 @@ loadOf (suc n) m a = getD m a 0 + 256 * loadOf n m (a + 1)
 abbrev pub storeOf : ℕ → List ℕ → ℕ → ℕ → List ℕ
 storeOf zero m a v = m
 storeOf (suc n) m a v = storeOf n (set m a (v % 256)) (a + 1) (v / 256)
+
+-- the longest memory, 16,777,216 bytes; a longer one is refusal 1
+abbrev pub longest : ℕ
+longest = 2 ^ 24

@@ -4,6 +4,11 @@ ghost use Prim.Native.Nat.{_+_, _<_, _≤_, _^_};
 ghost use lib.ListN.{length};
 ghost use Rattle.word.specs.Bytes.{loadOf, storeOf};
 
+// The longest memory, in bytes.
+pub const LONGEST: usize = 16777216;
+// The refusal of a longer one.
+pub const TOO_LONG: u32 = 1;
+
 fn wide(x: u8) -> u32
     ensures { λ r. ⌜ (r ≡ x) × (r < 2 ^ 8) ⌝ }
 {

@@ -1,0 +1,249 @@
+/* A checker of modules as one would write it in C for speed: one pass over the words. Of most words only the zero bits and the register
+   that is written have to be looked at, and a table says where they are: a switch that every word went through took twice the time, as a
+   processor cannot guess its next arm. The rules that the others can break are tried in their order. */
+#include "plain.h"
+
+#define INLINE static inline __attribute__((always_inline))
+
+#define RS (w >> 21 & 31)
+#define RT (w >> 16 & 31)
+#define RD (w >> 11 & 31)
+#define VALUE (w & 0xFFFF)
+
+#define SMALLEST_CODE 16u
+#define SMALLEST_DATA 4u
+#define LARGEST 65536u
+#define BUNDLE 16u
+
+/* The registers that hold the bases of the areas. */
+#define DATA 26u
+#define CODE 27u
+
+#define LINK 31u
+
+/* Bits drawn as zero, by the fields that are missing or by the only ones that are there. */
+#define NO_SHIFT 0x7C0
+#define NO_RS 0x3E00000
+#define NO_RT 0x1F0000
+#define RS_RT_ONLY 0xFFC0
+#define RS_ONLY 0x1FFFC0
+#define RD_ONLY 0x3FF07C0
+#define RS_RD_ONLY 0x1F07C0
+#define STYPE_ONLY 0x3FFF800
+#define RT_RD_ONLY 0x7FF
+
+/* What is left to try once a word's zero bits and the register that it writes are right. Those from BRANCH on are branches and jumps. */
+enum form { NONE, ORDINARY, BREAK, CONTROL, BYTE, HALF, WORD, BRANCH, LINKING_BRANCH, JUMP, JUMP_REGISTER, LINKING_REGISTER };
+
+/* The bits that must be zero, the form, and where the written register is in the word: bits to shift it down, and its bits then. */
+struct entry {
+    uint32_t zero;
+    uint8_t form, shift, bits;
+};
+#define NOWHERE 0, 0
+#define TO_RT 16, 31
+#define TO_RD 11, 31
+
+#define THREE {NO_SHIFT, ORDINARY, TO_RD}
+#define SHIFTED {NO_RS, ORDINARY, TO_RD}
+#define FROM_HI_LO {RD_ONLY, ORDINARY, TO_RD}
+#define TO_HI_LO {RS_ONLY, ORDINARY, NOWHERE}
+#define MULTIPLY {RS_RT_ONLY, ORDINARY, NOWHERE}
+#define TRAP {0, ORDINARY, NOWHERE}
+#define CONSTANT {0, ORDINARY, TO_RT}
+#define LOAD(form) {0, form, TO_RT}
+#define STORE(form) {0, form, NOWHERE}
+
+/* By the function, for opcode 0. */
+static const struct entry functions[64] = {
+    [0] = SHIFTED, [2] = SHIFTED, [3] = SHIFTED, [4] = THREE, [6] = THREE, [7] = THREE,
+    [8] = {RS_ONLY, JUMP_REGISTER, NOWHERE}, [9] = {RS_RD_ONLY, LINKING_REGISTER, TO_RD},
+    [12] = {0, ORDINARY, NOWHERE}, [13] = {0, BREAK, NOWHERE}, [15] = {STYPE_ONLY, ORDINARY, NOWHERE},
+    [16] = FROM_HI_LO, [17] = TO_HI_LO, [18] = FROM_HI_LO, [19] = TO_HI_LO,
+    [24] = MULTIPLY, [25] = MULTIPLY, [26] = MULTIPLY, [27] = MULTIPLY,
+    [32] = THREE, [33] = THREE, [34] = THREE, [35] = THREE, [36] = THREE, [37] = THREE, [38] = THREE, [39] = THREE,
+    [42] = THREE, [43] = THREE,
+    [48] = TRAP, [49] = TRAP, [50] = TRAP, [51] = TRAP, [52] = TRAP, [54] = TRAP,
+};
+
+/* By rt, for opcode 1. */
+static const struct entry conditions[32] = {
+    [0] = {0, BRANCH, NOWHERE}, [1] = {0, BRANCH, NOWHERE},
+    [8] = TRAP, [9] = TRAP, [10] = TRAP, [11] = TRAP, [12] = TRAP, [14] = TRAP,
+    [16] = {0, LINKING_BRANCH, NOWHERE}, [17] = {0, LINKING_BRANCH, NOWHERE},
+};
+
+/* By the opcode, for all others. */
+static const struct entry opcodes[64] = {
+    [2] = {0, JUMP, NOWHERE}, [3] = {0, JUMP, NOWHERE},
+    [4] = {0, BRANCH, NOWHERE}, [5] = {0, BRANCH, NOWHERE}, [6] = {NO_RT, BRANCH, NOWHERE}, [7] = {NO_RT, BRANCH, NOWHERE},
+    [8] = CONSTANT, [9] = CONSTANT, [10] = CONSTANT, [11] = CONSTANT, [12] = CONSTANT, [13] = CONSTANT, [14] = CONSTANT,
+    [15] = {NO_RS, ORDINARY, TO_RT}, [16] = {0, CONTROL, NOWHERE},
+    [32] = LOAD(BYTE), [33] = LOAD(HALF), [35] = LOAD(WORD), [36] = LOAD(BYTE), [37] = LOAD(HALF),
+    [40] = STORE(BYTE), [41] = STORE(HALF), [43] = STORE(WORD),
+    [48] = LOAD(WORD), [56] = LOAD(WORD), /* LL; SC, which writes rt too */
+};
+
+#define BIT(n) (1ull << (n))
+/* Opcodes of accesses: LB, LH, LW, LBU, LHU, SB, SH, SW, LL and SC. */
+#define ACCESSES (BIT(32) | BIT(33) | BIT(35) | BIT(36) | BIT(37) | BIT(40) | BIT(41) | BIT(43) | BIT(48) | BIT(56))
+
+struct module {
+    uint32_t code_base, code_size, data_size;
+    const uint8_t *image;
+};
+
+INLINE uint32_t word(const struct module *m, uint32_t i)
+{
+    const uint8_t *p = m->image + 4 * (size_t)i;
+    return p[0] | (uint32_t)p[1] << 8 | (uint32_t)p[2] << 16 | (uint32_t)p[3] << 24;
+}
+
+INLINE const struct entry *entry_of(uint32_t w)
+{
+    switch (w >> 26) {
+    case 0: return &functions[w & 63];
+    case 1: return &conditions[RT];
+    default: return &opcodes[w >> 26];
+    }
+}
+
+INLINE int register_jump(uint32_t w)
+{
+    return (w & (0xFC00003F | RS_ONLY)) == 8 || (w & (0xFC00003F | RS_RD_ONLY)) == 9;
+}
+
+INLINE int needs_guard(uint32_t w) { return (ACCESSES >> (w >> 26) & 1) || register_jump(w); }
+
+/* Whether the two words before, in the same bundle, are ANDI R,S,mask and OR R,R,base. The mask goes to *mask. */
+INLINE int guarded(const struct module *m, uint32_t i, uint32_t r, uint32_t base, uint32_t *mask)
+{
+    if (i % 4 < 2 || r == 0 || r == DATA || r == CODE)
+        return 0;
+    uint32_t andi = word(m, i - 2);
+    *mask = andi & 0xFFFF;
+    return (andi & 0xFC1F0000) == (0x30000000 | r << 16) && word(m, i - 1) == (0x25 | r << 21 | base << 16 | r << 11);
+}
+
+INLINE uint32_t access(const struct module *m, uint32_t i, uint32_t w, uint32_t width)
+{
+    uint32_t mask, offset = VALUE;
+    if (!guarded(m, i, RS, DATA, &mask) || offset > 0x7FFF || ((mask | offset) & (width - 1)) || mask + offset + width > m->data_size)
+        return CC100_REFUSED_ACCESS;
+    return CC100_DONE;
+}
+
+/* JR and JALR, tried with 13 and 14. */
+INLINE uint32_t indirect(const struct module *m, uint32_t i, uint32_t w, int after)
+{
+    uint32_t mask;
+    if (!guarded(m, i, RS, CODE, &mask) || mask % BUNDLE || mask + BUNDLE > m->code_size)
+        return CC100_REFUSED_JUMP;
+    return after ? CC100_REFUSED_SLOT : CC100_DONE;
+}
+
+/* A branch or jump to an address, tried with 14 and 15. The last word is outside here: nothing may land on it. */
+INLINE uint32_t direct(const struct module *m, uint32_t target, int after)
+{
+    uint32_t place = target - m->code_base;
+    if (after)
+        return CC100_REFUSED_SLOT;
+    if (place >= m->code_size - 4 || needs_guard(word(m, place / 4)) || needs_guard(word(m, place / 4 + 1)))
+        return CC100_REFUSED_TARGET;
+    return CC100_DONE;
+}
+
+INLINE uint32_t slot_address(const struct module *m, uint32_t i) { return m->code_base + 4 * i + 4; }
+
+INLINE uint32_t branch(const struct module *m, uint32_t i, uint32_t w, int after)
+{
+    return direct(m, slot_address(m, i) + ((uint32_t)(int16_t)VALUE << 2), after);
+}
+
+INLINE uint32_t jump(const struct module *m, uint32_t i, uint32_t w, int after)
+{
+    return direct(m, (slot_address(m, i) & 0xF0000000) | (w & 0x3FFFFFF) << 2, after);
+}
+
+INLINE uint32_t control(uint32_t w)
+{
+    int named = RD == 8 || RD == 12 || RD == 13 || RD == 14;
+    if (w == 0x42000010 || ((RS == 0 || RS == 4) && named && !(w & RT_RD_ONLY)))
+        return CC100_REFUSED_PRIVILEGED;
+    return CC100_REFUSED_NO_INSTRUCTION;
+}
+
+/* The first of 9 and 11 to 15 that a word of no ordinary form breaks, or 0; or 8, for a word of opcode 16. */
+INLINE uint32_t broken(const struct module *m, uint32_t i, uint32_t w, enum form form, int after)
+{
+    switch (form) {
+    case BREAK: return (w >> 6 & 0xFFFFF) == 15 ? CC100_REFUSED_PRIVILEGED : CC100_DONE;
+    case CONTROL: return control(w);
+    case BYTE: return access(m, i, w, 1);
+    case HALF: return access(m, i, w, 2);
+    case WORD: return access(m, i, w, 4);
+    case BRANCH: return branch(m, i, w, after);
+    case LINKING_BRANCH: return RS == LINK ? CC100_REFUSED_LINK : branch(m, i, w, after);
+    case JUMP: return jump(m, i, w, after);
+    case JUMP_REGISTER: return indirect(m, i, w, after);
+    case LINKING_REGISTER: return RD == RS ? CC100_REFUSED_LINK : indirect(m, i, w, after);
+    default: return CC100_DONE;
+    }
+}
+
+INLINE struct cc100_verdict made(uint32_t number, uint32_t place)
+{
+    struct cc100_verdict v = {number, place};
+    return v;
+}
+
+INLINE struct cc100_verdict words(const struct module *m)
+{
+    uint32_t count = m->code_size / 4, slot = count, w; /* the slot is the word behind the last branch or jump */
+    for (uint32_t i = 0; i < count; i++) {
+        w = word(m, i);
+        const struct entry *e = entry_of(w);
+        uint32_t written = w >> e->shift & e->bits, number;
+        if (e->form == NONE || (w & e->zero))
+            return made(CC100_REFUSED_NO_INSTRUCTION, i);
+        if (written == DATA || written == CODE)
+            return made(CC100_REFUSED_BASE_REGISTER, i);
+        if (e->form == ORDINARY)
+            continue;
+        if ((number = broken(m, i, w, e->form, i == slot)))
+            return made(number, i);
+        if (e->form >= BRANCH)
+            slot = i + 1;
+    }
+    w = word(m, count - 2);
+    return w >> 27 == 1 || register_jump(w) ? made(CC100_DONE, CC100_NO_PLACE) : made(CC100_REFUSED_END, count - 2);
+}
+
+INLINE int sized(uint32_t size, uint32_t smallest) { return size >= smallest && size <= LARGEST && !(size & (size - 1)); }
+
+/* Sizes are powers of two. */
+INLINE int placed(uint32_t base, uint32_t size, uint64_t memory_length)
+{
+    return !(base & (size - 1)) && (uint64_t)base + size <= memory_length;
+}
+
+struct cc100_verdict plain_check(uint64_t memory_length, uint32_t code_base, uint32_t code_size, uint32_t data_base, uint32_t data_size,
+                                 const uint8_t *image, size_t image_length)
+{
+    struct module m = {code_base, code_size, data_size, image};
+    if (memory_length > CC100_LONGEST_MEMORY)
+        return made(CC100_REFUSED_MEMORY, CC100_NO_PLACE);
+    if (!sized(code_size, SMALLEST_CODE))
+        return made(CC100_REFUSED_CODE_SIZE, CC100_NO_PLACE);
+    if (!sized(data_size, SMALLEST_DATA))
+        return made(CC100_REFUSED_DATA_SIZE, CC100_NO_PLACE);
+    if (!placed(code_base, code_size, memory_length))
+        return made(CC100_REFUSED_CODE_AREA, CC100_NO_PLACE);
+    if (!placed(data_base, data_size, memory_length))
+        return made(CC100_REFUSED_DATA_AREA, CC100_NO_PLACE);
+    if (code_base < data_base + data_size && data_base < code_base + code_size)
+        return made(CC100_REFUSED_OVERLAP, CC100_NO_PLACE);
+    if (image_length != code_size)
+        return made(CC100_REFUSED_IMAGE_LENGTH, CC100_NO_PLACE);
+    return words(&m);
+}

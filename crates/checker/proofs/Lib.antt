@@ -1,0 +1,7 @@
+pub mod Guards
+pub mod Targets
+pub mod Scan
+pub mod Says
+pub mod Reflection
+pub mod Whole
+pub mod Examples

@@ -1,0 +1,169 @@
+-- The words of an image in their order: what the parts of the code say, put together.
+use Prim.Native.Nat.{ℕ, zero, suc, _+_, _-_, _*_, _/_, _%_, _≤_, _<_}
+use mathlib.Core.Path.{_≡_, refl, sym, ap, subst, _∙_}
+use mathlib.Core.Bool.{Bool, true, false, not, cond, _||_}
+use mathlib.Core.List.{List, [], _∷_}
+use native.Mathlib.Omega.{arith}
+use native.Mathlib.Numerals.{add-one}
+use lib.Dec.{eqb, leb}
+use lib.ListN.{length, take, drop}
+use borrow.Author.Tests.{le-leb, lt-leb, eq-eqb, ne-eqb}
+use Rattle.layout.specs.declared.Layout.{Layout}
+use Rattle.layout.specs.Layout.{layoutRefusal, broken1, broken2, broken3, broken4, broken5, broken6}
+use Rattle.layout.proofs.Kept.{kept}
+use Rattle.view.specs.declared.View.{View}
+use Rattle.view.specs.View.{nothing}
+use Rattle.checker.specs.declared.verdict.Verdict.{Verdict}
+use Rattle.checker.specs.Rules.{Sized, viewAt, viewBefore, isJump, broken10, broken11, broken12, broken13, broken14, broken15, wordRefusal}
+use Rattle.checker.specs.Check.{verdict, noPlace, accepted, wordTrials, trialsOf, isWordBroken, isFileBroken, isBroken, firstOf, wordsVerdict, checkOf, codeOf, placedOf}
+use Rattle.checker.specs.Lawful.{Not}
+
+-- ---- the two words before
+
+module _ (img : List ℕ) where
+  pub none-before : (k : ℕ) → nothing ≡ viewBefore img (suc k) 0
+  unfolding viewBefore
+  none-before k = rw (lt-leb (suc k) 0 (omega arith))
+
+  pub one-before : (i : ℕ) {v : View} → v ≡ viewAt img i → v ≡ viewBefore img 1 (i + 1)
+  unfolding viewBefore
+  one-before i e = let z : i + 1 - 1 ≡ i = omega arith in rw (le-leb 1 (i + 1) (omega arith), z, e)
+
+  pub two-before : (i : ℕ) {b : View} → b ≡ viewBefore img 1 i → b ≡ viewBefore img 2 (i + 1)
+  unfolding viewBefore
+  two-before zero e = e
+  two-before (suc i) e =
+      let z : suc i - 1 ≡ suc i + 1 - 2 = omega arith in
+      let f : _ ≡ viewAt img (suc i - 1) = e ∙ (rw (le-leb 1 (suc i) (omega arith))) in
+      f ∙ (rw (le-leb 2 (suc i + 1) (omega arith), z))
+
+-- ---- a ladder of trials, and the first number that it gives
+
+-- the trial of number k, or what comes after the ladder where k is 0
+abbrev pub given : (ℕ → Verdict) → Verdict → ℕ → Verdict
+given t x k = cond (eqb k 0) x (t k)
+
+ladder : (t : ℕ → Verdict) (x : Verdict) (a b c d e f g h : Bool)
+    → cond a (t 8) (cond b (t 9) (cond c (t 10) (cond d (t 11) (cond e (t 12) (cond f (t 13) (cond g (t 14) (cond h (t 15) x)))))))
+    ≡ given t x (cond a 8 (cond b 9 (cond c 10 (cond d 11 (cond e 12 (cond f 13 (cond g 14 (cond h 15 0))))))))
+ladder t x true b c d e f g h = refl
+ladder t x false true c d e f g h = refl
+ladder t x false false true d e f g h = refl
+ladder t x false false false true e f g h = refl
+ladder t x false false false false true f g h = refl
+ladder t x false false false false false true g h = refl
+ladder t x false false false false false false true h = refl
+ladder t x false false false false false false false true = refl
+ladder t x false false false false false false false false = refl
+
+module _ (l : Layout) (img : List ℕ) where
+  -- one word, then the words after it
+  pub words-more : (n i : ℕ)
+      → wordsVerdict l img (suc n) i
+      ≡ given (λ (k : ℕ). verdict k i) (wordsVerdict l img n (suc i)) (wordRefusal l img i (viewBefore img 2 i) (viewBefore img 1 i) (viewAt img i))
+  unfolding wordsVerdict isWordBroken wordRefusal
+  words-more n i =
+      let a = viewBefore img 2 i in
+      let b = viewBefore img 1 i in
+      let v = viewAt img i in
+      ladder (λ (k : ℕ). verdict k i) (wordsVerdict l img n (suc i)) (not (v .legal)) (v .barred) (broken10 v) (broken11 v)
+      (broken12 (l .«data_size») i a b v) (broken13 (l .«code_size») i a b v) (broken14 b v) (broken15 l img i v)
+
+  -- the rules of words do not hang on the memory's length
+  words-same : (len n i : ℕ) → firstOf (isBroken l len img) (wordTrials n i) ≡ wordsVerdict l img n i
+  unfolding wordsVerdict isWordBroken
+  words-same len zero i = refl
+  words-same len (suc n) i = rw (words-same len n (suc i))
+
+-- ---- the loop of the code: i of n words are done, r is what the tests of word i give
+
+module _ (l : Layout) (img : List ℕ) (i n : ℕ) {a : View} (p : a ≡ viewBefore img 2 i) where
+  module _ {b v : View} {r : ℕ} (q : b ≡ viewBefore img 1 i) (w : v ≡ viewAt img i) (e : r ≡ wordRefusal l img i a b v) (h : i < n) where
+    more : wordsVerdict l img (n - i) i ≡ given (λ (k : ℕ). verdict k i) (wordsVerdict l img (n - (i + 1)) (i + 1)) r
+    more =
+        let z : n - i ≡ suc (n - (i + 1)) = omega arith in
+        rw (z, add-one i) (words-more l img (n - suc i) i ∙ (rw (e, p, q, w)))
+
+    pub scan-stop : Not (r ≡ 0) → verdict r i ≡ wordsVerdict l img (n - i) i
+    scan-stop k = sym (more ∙ (rw (ne-eqb r 0 k)))
+
+    pub scan-go : r ≡ 0 → wordsVerdict l img (n - (i + 1)) (i + 1) ≡ wordsVerdict l img (n - i) i
+    scan-go k = sym (more ∙ (rw k))
+
+  module _ (s : Sized l img) (m : n ≡ length img / 4) (h : i ≤ n) (k : n ≤ i) where
+    ended : wordsVerdict l img (n - i) i ≡ cond (not (isJump a)) (verdict 16 (n - 2)) accepted
+    unfolding wordsVerdict isWordBroken viewBefore
+    ended =
+        let z : n - i ≡ 0 = omega arith in
+        let d : i ≡ n = omega arith in
+        rw (z, p, le-leb 2 i (omega (arith, s .least, s .length-is)), d)
+
+    pub scan-accepted : isJump a ≡ true → accepted ≡ wordsVerdict l img (n - i) i
+    scan-accepted e = sym (ended ∙ (rw e))
+
+    pub scan-refused : isJump a ≡ false → verdict 16 (n - 2) ≡ wordsVerdict l img (n - i) i
+    scan-refused e = sym (ended ∙ (rw e))
+
+-- ---- the whole
+
+layout-ladder : (t : ℕ → Verdict) (x : Verdict) (a b c d e f : Bool)
+    → cond a (t 1) (cond b (t 2) (cond c (t 3) (cond d (t 4) (cond e (t 5) (cond f (t 6) x)))))
+    ≡ given t x (cond a 1 (cond b 2 (cond c 3 (cond d 4 (cond e 5 (cond f 6 0))))))
+layout-ladder t x true b c d e f = refl
+layout-ladder t x false true c d e f = refl
+layout-ladder t x false false true d e f = refl
+layout-ladder t x false false false true e f = refl
+layout-ladder t x false false false false true f = refl
+layout-ladder t x false false false false false true = refl
+layout-ladder t x false false false false false false = refl
+
+module _ (l : Layout) (len : ℕ) (img : List ℕ) where
+  -- rule 7, then the words
+  image : Verdict
+  image = cond (not (eqb (length img) (l .«code_size»))) (verdict 7 noPlace) (wordsVerdict l img (l .«code_size» / 4) 0)
+
+  whole : checkOf l len img ≡ given (λ (k : ℕ). verdict k noPlace) image (layoutRefusal l len)
+  unfolding checkOf isFileBroken layoutRefusal image
+  whole =
+      rw (words-same l img len (l .«code_size» / 4) 0)
+      (layout-ladder (λ (k : ℕ). verdict k noPlace) image (broken1 len) (broken2 l) (broken3 l) (broken4 l len) (broken5 l len) (broken6 l))
+
+  module _ {r : ℕ} (e : r ≡ layoutRefusal l len) where
+    pub layout-refused : Not (r ≡ 0) → verdict r noPlace ≡ checkOf l len img
+    layout-refused h = sym (whole ∙ (rw (← e, ne-eqb r 0 h)))
+
+    module _ (z : r ≡ 0) where
+      laid : checkOf l len img ≡ image
+      laid = whole ∙ (rw (← e, z))
+
+      pub length-refused : Not (length img ≡ l .«code_size») → verdict 7 noPlace ≡ checkOf l len img
+      unfolding image
+      length-refused h = sym (laid ∙ (rw (ne-eqb (length img) (l .«code_size») h)))
+
+      module _ (h : length img ≡ l .«code_size») where
+        pub words-tried : {v : Verdict} → v ≡ wordsVerdict l img (l .«code_size» / 4) 0 → v ≡ checkOf l len img
+        unfolding image
+        words-tried q = q ∙ sym (laid ∙ (rw (eq-eqb (length img) (l .«code_size») h)))
+
+        pub sized : Sized l img
+        sized =
+            let k = kept l len (sym e ∙ z) in
+            record {
+              length-is = h;
+              least = k .least;
+              words = omega (arith, k .size);
+              aligned = omega (arith, k .base);
+              inside = omega (arith, k .inside, k .within);
+            }
+
+-- ---- the code area of a memory
+
+pub part-inside : (l : Layout) (len : ℕ) {r : ℕ} → r ≡ layoutRefusal l len → r ≡ 0 → l .«code_base» + l .«code_size» ≤ len
+part-inside l len e z = kept l len (sym e ∙ z) .inside
+
+pub part-is : (l : Layout) (mem : List ℕ)
+    → checkOf l (length mem) (take (l .«code_base» + l .«code_size» - l .«code_base») (drop (l .«code_base») mem)) ≡ placedOf l mem
+unfolding codeOf
+part-is l mem =
+    let z : l .«code_base» + l .«code_size» - l .«code_base» ≡ l .«code_size» = omega arith in
+    ap (λ (k : ℕ). checkOf l (length mem) (take k (drop (l .«code_base») mem))) z

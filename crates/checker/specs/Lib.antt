@@ -1,0 +1,5 @@
+pub mod Rules
+pub mod Check
+pub mod Lawful
+pub mod Refusal
+pub mod Examples

@@ -1,0 +1,56 @@
+-- What a refusal says: a rule that is broken at its place, and none before it in document 01's order.
+use Prim.Native.Nat.{ℕ, _≤_}
+use mathlib.Core.Path.{_≡_}
+use mathlib.Core.Bool.{Bool, true, false}
+use mathlib.Core.List.{List, [], _∷_, _++_}
+use lib.Dec.{eqb, leb}
+use lib.ListN.{length}
+use Rattle.word.specs.Bytes.{longest}
+use Rattle.layout.specs.declared.Layout.{Layout}
+use Rattle.checker.specs.declared.verdict.Verdict.{Verdict}
+use Rattle.checker.specs.Check.{trialsOf}
+use Rattle.checker.specs.Lawful.{Not, Power, Placed, Apart, Rule8, Rule9, Rule10, Rule11, Rule12, Rule13, Rule14, Rule15, Rule16}
+
+abbrev pub pick : Bool → Type 0 → Type 0 → Type 0
+pick true P Q = P
+pick false P Q = Q
+
+-- rule n of 1 to 7
+abbrev pub FileRule : Layout → ℕ → List ℕ → ℕ → Type 0
+FileRule l len img n =
+    pick (eqb n 1) (len ≤ longest)
+    (pick (eqb n 2) (Power 16 65536 (l .«code_size»))
+    (pick (eqb n 3) (Power 4 65536 (l .«data_size»))
+    (pick (eqb n 4) (Placed (l .«code_base») (l .«code_size») len)
+    (pick (eqb n 5) (Placed (l .«data_base») (l .«data_size») len)
+    (pick (eqb n 6) (Apart l)
+    (pick (eqb n 7) (length img ≡ l .«code_size») (Unit {0})))))))
+
+-- rule n of 8 to 16, at word i
+abbrev pub WordRule : Layout → List ℕ → ℕ → ℕ → Type 0
+WordRule l img n i =
+    pick (eqb n 8) (Rule8 img i)
+    (pick (eqb n 9) (Rule9 img i)
+    (pick (eqb n 10) (Rule10 img i)
+    (pick (eqb n 11) (Rule11 img i)
+    (pick (eqb n 12) (Rule12 l img i)
+    (pick (eqb n 13) (Rule13 l img i)
+    (pick (eqb n 14) (Rule14 img i)
+    (pick (eqb n 15) (Rule15 l img i)
+    (pick (eqb n 16) (Rule16 img i) (Unit {0})))))))))
+
+-- the rule that a verdict names is kept at the place that it names
+abbrev pub Keeps : Layout → ℕ → List ℕ → Verdict → Type 0
+Keeps l len img t = pick (leb (t .number) 7) (FileRule l len img (t .number)) (WordRule l img (t .number) (t .place))
+
+abbrev pub All : (Verdict → Type 0) → List Verdict → Type 0
+All P [] = Unit {0}
+All P (t ∷ ts) = P t × All P ts
+
+-- verdict t refuses the module
+pub record Refusal (l : Layout) (len : ℕ) (img : List ℕ) (t : Verdict) : Type 0 where
+  pub before : List Verdict
+  pub after : List Verdict
+  pub order : trialsOf l ≡ before ++ (t ∷ after)
+  pub kept : All (Keeps l len img) before
+  pub broken : Not (Keeps l len img t)
