@@ -10,7 +10,7 @@ ARCHIVE = target/libcc100.a
 VERDICT = target/bin/verdict
 # Each of these is compiled by itself, so that what two calls share is inlined into both, and begins a cache line, so that its speed does
 # not hang on where a host's linker puts it.
-CALLS = cc100_instruction cc100_step cc100_run cc100_resume cc100_check
+CALLS = cc100_instruction cc100_step cc100_run cc100_resume cc100_check cc100_check_placed
 PLAIN = bench/plain_read.c bench/plain_step.c bench/plain_check.c
 
 .PHONY: sample test bench archive host host-test

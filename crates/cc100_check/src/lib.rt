@@ -1,6 +1,6 @@
-// cc100_check and cc100_check_placed: the module checker's calls for C.
+// cc100_check: the module checker's call for C on a module that is not placed yet.
 ghost use mathlib.Core.Path.{_≡_};
-ghost use Rattle.cc100_check.specs.Calls.{checkCall, placedCall};
+ghost use Rattle.cc100_check.specs.Call.{checkCall};
 use checker::verdict::Verdict;
 use layout::Layout;
 
@@ -22,23 +22,4 @@ pub extern "C" fn cc100_check(
         data_size,
     };
     checker::check::check(layout, memory_length, image)
-}
-
-#[no_mangle]
-pub extern "C" fn cc100_check_placed(
-    code_base: u32,
-    code_size: u32,
-    data_base: u32,
-    data_size: u32,
-    memory: &[u8],
-) -> Verdict
-    ensures { λ r. ⌜ r ≡ placedCall «code_base» «code_size» «data_base» «data_size» (now (memory .entry)) ⌝ }
-{
-    let layout = Layout {
-        code_base,
-        code_size,
-        data_base,
-        data_size,
-    };
-    checker::check::check_placed(layout, memory)
 }

@@ -8,6 +8,7 @@ use Rattle.isa.specs.Reading.{fits, decodeOf, readAs, readFields, readOf}
 use Rattle.layout.specs.Layout.{isCodeSize, isDataSize, isPlaced, isApart}
 use Rattle.branch.specs.Branch.{slotOf, relativeOf, regionOf}
 use Rattle.view.specs.View.{seen, wordView}
+use Rattle.view.specs.Guard.{isMaskOf, maskIn, isMergeOf}
 use Rattle.checker.specs.Rules.{viewAt, viewBefore, broken10, broken11, isGuarded, offsetOf, fitsData, fitsCode, broken12, broken13, broken14, targetOf, isEntry, lands, broken15}
 use Rattle.checker.specs.Check.{isWordBroken, isFileBroken, accepted, checkOf}
 use Rattle.checker.specs.Lawful.{Lawful}
@@ -15,7 +16,7 @@ use Rattle.checker.specs.Examples.{Example, lengthM, layoutM, moduleM, e
 use Rattle.checker.proofs.Whole.{accepted-lawful}
 
 pub examples-said : map saidOf examples ≡ map (λ (e : Example). e .says) examples
-unfolding signedOf extendOf registerWritten fits decodeOf readAs readFields readOf isCodeSize isDataSize isPlaced isApart slotOf relativeOf regionOf seen wordView viewAt viewBefore broken10 broken11 isGuarded offsetOf fitsData fitsCode broken12 broken13 broken14 targetOf isEntry lands broken15 isWordBroken isFileBroken checkOf
+unfolding signedOf extendOf registerWritten fits decodeOf readAs readFields readOf isCodeSize isDataSize isPlaced isApart slotOf relativeOf regionOf seen wordView isMaskOf maskIn isMergeOf viewAt viewBefore broken10 broken11 isGuarded offsetOf fitsData fitsCode broken12 broken13 broken14 targetOf isEntry lands broken15 isWordBroken isFileBroken checkOf
 examples-said = refl
 
 -- C9, the row after the sixteen refusals

@@ -1,7 +1,8 @@
 -- Guards: what the tests of the code say.
-use Prim.Native.Nat.{ℕ, _+_, _%_, _^_, _≤_, _<_}
+use Prim.Native.Nat.{ℕ, _+_, _-_, _%_, _^_, _≤_, _<_}
 use mathlib.Core.Path.{_≡_, refl, sym, ap, _∙_}
 use mathlib.Core.Bool.{Bool, true, false, not, _&&_}
+use mathlib.Core.List.{List}
 use native.Mathlib.Omega.{arith}
 use lib.Dec.{eqb, leb}
 use lib.IntN.{ℤ, pos, negsuc}
@@ -9,7 +10,9 @@ use borrow.Author.Tests.{ne-eqb, lt-leb, le-leb, not-true, not-false}
 use Rattle.word.specs.Number.{signedOf}
 use Rattle.word.proofs.Numbers.{signed-low, signed-high}
 use Rattle.view.specs.declared.View.{View}
-use Rattle.checker.specs.Rules.{isGuarded, offsetOf, fitsData, fitsCode, broken12, broken13}
+use Rattle.view.specs.Guard.{isMaskOf, maskIn}
+use Rattle.quick.proofs.Guards.{mask-value}
+use Rattle.checker.specs.Rules.{wordAt, isGuarded, offsetOf, fitsData, fitsCode, broken12, broken13}
 use Rattle.checker.specs.Lawful.{Not}
 
 module _ (size m v w : ℕ) where
@@ -22,29 +25,42 @@ module _ (size m v w : ℕ) where
   unfolding offsetOf fitsData
   offset-fits h = rw (signed-low 16 (v % 2 ^ 16) h)
 
-module _ (size i : ℕ) (a b v : View) where
-  pub no-access : v .width ≡ 0 → false ≡ broken12 size i a b v
+-- whatever asks for the mask of a guard may ask for the lower half of its first word
+masked : (a b base r : ℕ) (t : ℕ → Bool) → isGuarded a b base r && t (a % 2 ^ 16) ≡ isGuarded a b base r && t (maskIn a)
+unfolding isGuarded
+masked a b base r t = go (isMaskOf r a) refl _
+  where
+    go : (m : Bool) → isMaskOf r a ≡ m → (x : Bool) → (m && x) && t (a % 2 ^ 16) ≡ (m && x) && t (maskIn a)
+    go true e x = rw (mask-value a r e)
+    go false e x = refl
+
+module _ (size : ℕ) (img : List ℕ) (i : ℕ) (v : View) where
+  pub no-access : v .width ≡ 0 → false ≡ broken12 size img i v
   unfolding broken12
   no-access h = rw h
 
-  pub access-early : Not (v .width ≡ 0) → i % 4 < 2 → true ≡ broken12 size i a b v
+  pub access-early : Not (v .width ≡ 0) → i % 4 < 2 → true ≡ broken12 size img i v
   unfolding broken12
   access-early h p = rw (ne-eqb (v .width) 0 h, lt-leb 2 (i % 4) p)
 
-  pub access-guarded : {g f : Bool} → Not (v .width ≡ 0) → 2 ≤ i % 4 → g ≡ isGuarded a b 26 v
-      → f ≡ fitsData size (a .value) (offsetOf (v .value)) (v .width) → not (g && f) ≡ broken12 size i a b v
-  unfolding broken12
-  access-guarded h p qg qf = rw (ne-eqb (v .width) 0 h, le-leb 2 (i % 4) p, ← qg, ← qf)
-
-  pub no-register : not (v .register) ≡ true → false ≡ broken13 size i a b v
+  pub no-register : not (v .register) ≡ true → false ≡ broken13 size img i v
   unfolding broken13
   no-register h = rw (not-true (v .register) h)
 
-  pub register-early : not (v .register) ≡ false → i % 4 < 2 → true ≡ broken13 size i a b v
+  pub register-early : not (v .register) ≡ false → i % 4 < 2 → true ≡ broken13 size img i v
   unfolding broken13
   register-early h p = rw (not-false (v .register) h, lt-leb 2 (i % 4) p)
 
-  pub register-guarded : {g f : Bool} → not (v .register) ≡ false → 2 ≤ i % 4 → g ≡ isGuarded a b 27 v
-      → f ≡ fitsCode size (a .value) → not (g && f) ≡ broken13 size i a b v
-  unfolding broken13 isGuarded
-  register-guarded h p qg qf = rw (not-false (v .register) h, le-leb 2 (i % 4) p, ← qg, ← qf)
+  module _ (p : 2 ≤ i % 4) {a b : ℕ} (pa : a ≡ wordAt img (i - 2)) (pb : b ≡ wordAt img (i - 1)) {g f : Bool} where
+    pub access-guarded : Not (v .width ≡ 0) → g ≡ isGuarded a b 26 (v .rs)
+        → f ≡ fitsData size (a % 2 ^ 16) (offsetOf (v .value)) (v .width) → not (g && f) ≡ broken12 size img i v
+    unfolding broken12
+    access-guarded h qg qf =
+        rw (ne-eqb (v .width) 0 h, le-leb 2 (i % 4) p, qg, qf, ← pa, ← pb)
+        (ap not (masked a b 26 (v .rs) (λ m. fitsData size m (offsetOf (v .value)) (v .width))))
+
+    pub register-guarded : not (v .register) ≡ false → g ≡ isGuarded a b 27 (v .rs) → f ≡ fitsCode size (a % 2 ^ 16)
+        → not (g && f) ≡ broken13 size img i v
+    unfolding broken13
+    register-guarded h qg qf =
+        rw (not-false (v .register) h, le-leb 2 (i % 4) p, qg, qf, ← pa, ← pb) (ap not (masked a b 27 (v .rs) (fitsCode size)))

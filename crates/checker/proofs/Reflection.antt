@@ -24,12 +24,15 @@ use Rattle.isa.specs.declared.reading.Reading.{Reading}
 use Rattle.isa.specs.Class.{classOf}
 use Rattle.isa.specs.Table.{instructions}
 use Rattle.isa.specs.Reading.{readOf}
-use Rattle.isa.proofs.Codes.{keyOf, found, lookup, found-self, every, every-kind}
+use Rattle.isa.proofs.Codes.{keyOf, every}
+use Rattle.isa.proofs.Same.{is, same-kind, same-test}
 use Rattle.layout.specs.declared.Layout.{Layout}
 use Rattle.layout.specs.Layout.{isPower, isCodeSize, isDataSize, isPlaced, isApart}
 use Rattle.layout.proofs.Sizes.{Exponent, exponent-of}
 use Rattle.view.specs.declared.View.{View}
-use Rattle.view.specs.View.{isBarred, isMask, isMerge, isRelative, isRegion, isRegister, nothing, seen, viewOf, wordView}
+use Rattle.view.specs.View.{isBarred, isRelative, isRegion, isRegister, nothing, seen, viewOf, wordView, isBranch, isJump, needsGuard}
+use Rattle.view.specs.Guard as G
+use Rattle.view.specs.Guard.{isMask, isMerge, valueIn, isMaskOf, maskIn, isMergeOf}
 use Rattle.checker.specs.declared.verdict.Verdict.{Verdict}
 use Rattle.checker.specs.Rules as C
 use Rattle.checker.specs.Check.{isWordBroken, isFileBroken, isBroken}
@@ -101,26 +104,8 @@ module _ (l : Layout) (len : ℕ) (img : List ℕ) where
 
 -- ---- kinds
 
--- k is j, by their keys
-abbrev is : Kind → Kind → Bool
-is j k = eqb (keyOf k) (keyOf j)
-
--- no two kinds have the same key
 kinds : (k j : Kind) → Says (k ≡ j) (is j k)
-kinds k j = saying from (ap keyOf) (eqs (keyOf k) (keyOf j))
-  where
-    from : keyOf k ≡ keyOf j → k ≡ j
-    from e = let z : found k ≡ found j = sym (found-self k) ∙ ap (lookup instructions) e ∙ found-self j in cc
-
--- two tests that agree along the list are the same
-same-test : (t u : Kind → Bool) → T (every (λ k. cond (t k) (u k) (not (u k))) instructions) → (k : Kind) → u k ≡ t k
-same-test t u h k = agreed (t k) (u k) (every-kind (λ j. cond (t j) (u j) (not (u j))) h k)
-  where
-    agreed : (a b : Bool) → T (cond a b (not b)) → b ≡ a
-    agreed true true h = refl
-    agreed true false h = absurd h
-    agreed false true h = absurd h
-    agreed false false h = refl
+kinds k j = saying (same-kind k j) (ap keyOf) (eqs (keyOf k) (keyOf j))
 
 -- the test of one kind
 sole : (t : Kind → Bool) (j : Kind) → T (every (λ k. cond (t k) (is j k) (not (is j k))) instructions) → (k : Kind)
@@ -179,7 +164,7 @@ registers Region = fails (other isRegister refl refl)
 registers Register = holds refl
 
 module _ (x : Instruction) where
-  branches : Says (L.Branches x) (C.isBranch (seen x))
+  branches : Says (L.Branches x) (isBranch (seen x))
   unfolding seen
   branches = go (flowOf x)
     where
@@ -189,7 +174,7 @@ module _ (x : Instruction) where
       go Region = holds (λ e. other isRegion refl refl (sym e))
       go Register = holds (λ e. other isRegister refl refl (sym e))
 
-  needs-guard : Says (L.NeedsGuard x) (C.needsGuard (seen x))
+  needs-guard : Says (L.NeedsGuard x) (needsGuard (seen x))
   unfolding seen
   needs-guard = ors (nots (eqs (widthOf x) 0)) (registers (flowOf x))
 
@@ -202,19 +187,18 @@ readingAt img i = readOf (loadOf 4 img (4 * i))
 module _ (img : List ℕ) (i : ℕ) (P : Instruction → Type 0) (t : View → Bool) (z : t nothing ≡ false) where
   every-word : ((x : Instruction) → Denies (P x) (t (seen x))) → Denies ((x : Instruction) → Stands img i x → P x) (t (C.viewAt img i))
   unfolding wordView C.viewAt
-  every-word f = every-reading P t z f (readingAt img i)
+  every-word f = every-reading P (λ r. t (viewOf r)) z f (readingAt img i)
 
-  some-word : ((x : Instruction) → Stands img i x → Says (P x) (t (seen x)))
-      → Says ((x : Instruction) × (Stands img i x × P x)) (t (C.viewAt img i))
+  some-word : ((x : Instruction) → Says (P x) (t (seen x))) → Says ((x : Instruction) × (Stands img i x × P x)) (t (C.viewAt img i))
   unfolding wordView C.viewAt
-  some-word f = some-reading P t z (readingAt img i) f
+  some-word f = some-reading P (λ r. t (viewOf r)) z (readingAt img i) (λ x e. f x)
 
 module _ (img : List ℕ) (i : ℕ) where
   rule8 : Denies (L.Rule8 img i) (not (C.viewAt img i .legal))
   unfolding seen
   rule8 =
       lacks (saying (λ h. (h .0, h .1 .0)) (λ h. (h .0, (h .1, tt)))
-      (some-word img i (λ x. Unit {0}) (λ v. v .legal) refl (λ x e. holds tt)))
+      (some-word img i (λ x. Unit {0}) (λ v. v .legal) refl (λ x. holds tt)))
 
   rule9 : Denies (L.Rule9 img i) (C.viewAt img i .barred)
   unfolding seen
@@ -239,32 +223,32 @@ module _ (img : List ℕ) (i : ℕ) where
       links true a b c d = refl
       links false a b c d = refl
 
-  frees : Denies (L.Free img i) (C.needsGuard (C.viewAt img i))
+  frees : Denies (L.Free img i) (needsGuard (C.viewAt img i))
   unfolding seen
-  frees = every-word img i _ C.needsGuard refl (λ x. bars (needs-guard x))
+  frees = every-word img i _ needsGuard refl (λ x. bars (needs-guard x))
 
-  rule16 : Denies (L.Rule16 img i) (not (C.isJump (C.viewAt img i)))
+  rule16 : Denies (L.Rule16 img i) (not (isJump (C.viewAt img i)))
   unfolding seen
-  rule16 = lacks (some-word img i _ C.isJump refl (λ x e. ors (regions (flowOf x)) (registers (flowOf x))))
+  rule16 = lacks (some-word img i _ isJump refl (λ x. ors (regions (flowOf x)) (registers (flowOf x))))
 
 module _ (img : List ℕ) (i : ℕ) where
   -- the word before, if there is one, doesn't branch
   abbrev AfterNone : Type 0
   AfterNone = 0 < i → (y : Instruction) → Stands img (i - 1) y → Not (L.Branches y)
 
-  branch-before : Denies AfterNone (C.isBranch (C.viewBefore img 1 i))
+  branch-before : Denies AfterNone (isBranch (C.viewBefore img i))
   unfolding seen C.viewBefore
   branch-before = go (les 1 i)
     where
-      go : {b : Bool} → Says (1 ≤ i) b → Denies AfterNone (C.isBranch (cond b (C.viewAt img (i - 1)) nothing))
-      go (holds h) = denying (λ f _. f) (λ f. f h) (every-word img (i - 1) _ C.isBranch refl (λ y. bars (branches y)))
+      go : {b : Bool} → Says (1 ≤ i) b → Denies AfterNone (isBranch (cond b (C.viewAt img (i - 1)) nothing))
+      go (holds h) = denying (λ f _. f) (λ f. f h) (every-word img (i - 1) _ isBranch refl (λ y. bars (branches y)))
       go (fails h) = keeps (λ p. absurd (h p))
 
-  rule14 : Denies (L.Rule14 img i) (C.broken14 (C.viewBefore img 1 i) (C.viewAt img i))
+  rule14 : Denies (L.Rule14 img i) (C.broken14 (isBranch (C.viewBefore img i)) (C.viewAt img i))
   unfolding C.broken14
   rule14 =
       denying (λ f x y s b p. f x s b p y) (λ f x s b p y. f x y s b p)
-      (every-word img i _ (C.broken14 (C.viewBefore img 1 i)) refl (λ x. imps (branches x) branch-before))
+      (every-word img i _ (C.broken14 (isBranch (C.viewBefore img i))) refl (λ x. imps (branches x) branch-before))
 
 -- ---- guards
 
@@ -282,69 +266,54 @@ fits-code size m = ands (eqs _ _) (les _ _)
 
 module _ (img : List ℕ) (i r : ℕ) where
   -- the mask is the value that is read
-  mask-value : {m : ℕ} → L.Masks img i r m → m ≡ C.viewAt img i .value
-  unfolding seen wordView C.viewAt
-  mask-value (x, (s, (k, (t, v)))) = sym v ∙ ap (λ (y : Reading). viewOf y .value) (sym s)
+  mask-value : {m : ℕ} → L.Masks img i r m → m ≡ maskIn (C.wordAt img i)
+  unfolding maskIn
+  mask-value (x, (s, (k, (t, v)))) = sym v ∙ ap valueIn (sym s)
 
-  masks-at : let v = C.viewAt img i in Says (L.Masks img i r (v .value)) (v .mask && eqb (v .rt) r)
-  unfolding seen wordView C.viewAt
+  masks-at : Says (L.Masks img i r (maskIn (C.wordAt img i))) (isMaskOf r (C.wordAt img i))
+  unfolding isMaskOf maskIn
   masks-at =
-      some-word img i _ (λ v. v .mask && eqb (v .rt) r) refl
-      (λ x e. saying (λ h. (h .0, (h .1, ap (λ (y : Reading). viewOf y .value) (sym e)))) (λ h. (h .0, h .1 .0))
-      (ands (masks (x .kind)) (eqs (x .rt) r)))
+      some-reading _ (G.masks r) refl (readingAt img i)
+      (λ x e. saying (λ h. (h .0, (h .1, ap valueIn (sym e)))) (λ h. (h .0, h .1 .0)) (ands (masks (x .kind)) (eqs (x .rt) r)))
 
-  merges-at : (base : ℕ) → let v = C.viewAt img i in
-      Says (L.Merges img i r base) (v .merge && (eqb (v .rd) r && (eqb (v .rs) r && eqb (v .rt) base)))
-  unfolding seen
+  merges-at : (base : ℕ) → Says (L.Merges img i r base) (isMergeOf base r (C.wordAt img i))
+  unfolding isMergeOf
   merges-at base =
-      some-word img i _ (λ v. v .merge && (eqb (v .rd) r && (eqb (v .rs) r && eqb (v .rt) base))) refl
+      some-reading _ (G.merges base r) refl (readingAt img i)
       (λ x e. ands (merges (x .kind)) (ands (eqs _ _) (ands (eqs _ _) (eqs _ _))))
 
-view-before : (img : List ℕ) (k i : ℕ) → k ≤ i → C.viewBefore img k i ≡ C.viewAt img (i - k)
-unfolding C.viewBefore
-view-before img k i h = rw (le-leb k i h)
-
--- a guard whose mask is as Q asks
-module _ (img : List ℕ) (i base : ℕ) (v : View) (Q : ℕ → Type 0) (t : ℕ → Bool) (q : (m : ℕ) → Says (Q m) (t m)) where
+-- a guard of base register r whose mask is as Q asks
+module _ (img : List ℕ) (i base r : ℕ) (Q : ℕ → Type 0) (t : ℕ → Bool) (q : (m : ℕ) → Says (Q m) (t m)) where
   -- Guarded of Lawful, but for the bundle
   abbrev Pair : ℕ → Type 0
-  Pair m =
-      (L.Masks img (i - 2) (v .rs) m × L.Merges img (i - 1) (v .rs) base)
-      × (Not (v .rs ≡ 0) × (Not (v .rs ≡ 26) × Not (v .rs ≡ 27)))
+  Pair m = (L.Masks img (i - 2) r m × L.Merges img (i - 1) r base) × (Not (r ≡ 0) × (Not (r ≡ 26) × Not (r ≡ 27)))
 
-  pairs : Says ((m : ℕ) × (Pair m × Q m))
-      (C.isGuarded (C.viewAt img (i - 2)) (C.viewAt img (i - 1)) base v && t (C.viewAt img (i - 2) .value))
+  pairs : Says ((m : ℕ) × (Pair m × Q m)) (C.isGuardedAt img i base r && t (C.maskAt img i))
   unfolding C.isGuarded
   pairs =
-      saying (λ g. (C.viewAt img (i - 2) .value, (((g .0 .0, g .0 .1 .0), g .0 .1 .1), g .1)))
-      (λ g. let e = mask-value img (i - 2) (v .rs) (g .1 .0 .0 .0) in
+      saying (λ g. (C.maskAt img i, (((g .0 .0, g .0 .1 .0), g .0 .1 .1), g .1)))
+      (λ g. let e = mask-value img (i - 2) r (g .1 .0 .0 .0) in
       ((rw e at (g .1 .0 .0 .0), (g .1 .0 .0 .1, g .1 .0 .1)), rw e at (g .1 .1)))
-      (ands (ands (masks-at img (i - 2) (v .rs)) (ands (merges-at img (i - 1) (v .rs) base)
+      (ands (ands (masks-at img (i - 2) r) (ands (merges-at img (i - 1) r base)
       (ands (nots (eqs _ _)) (ands (nots (eqs _ _)) (nots (eqs _ _)))))) (q _))
 
-  guards : Says ((m : ℕ) × (L.Guarded img i (v .rs) base m × Q m))
-      (C.inBundle i && (C.isGuarded (C.viewBefore img 2 i) (C.viewBefore img 1 i) base v && t (C.viewBefore img 2 i .value)))
-  guards = go (les 2 (i % 4))
-    where
-      go : {b : Bool} → Says (2 ≤ i % 4) b → Says ((m : ℕ) × (L.Guarded img i (v .rs) base m × Q m))
-          (b && (C.isGuarded (C.viewBefore img 2 i) (C.viewBefore img 1 i) base v && t (C.viewBefore img 2 i .value)))
-      go (holds h) =
-          rw (view-before img 2 i (omega arith), view-before img 1 i (omega arith))
-          (saying (λ g. (g .0, ((h, g .1 .0), g .1 .1))) (λ g. (g .0, (g .1 .0 .1, g .1 .1))) pairs)
-      go (fails h) = fails (λ g. h (g .1 .0 .0))
+  guards : Says ((m : ℕ) × (L.Guarded img i r base m × Q m)) (C.inBundle i && (C.isGuardedAt img i base r && t (C.maskAt img i)))
+  guards =
+      saying (λ g. (g .1 .0, ((g .0, g .1 .1 .0), g .1 .1 .1))) (λ g. (g .1 .0 .0, (g .0, (g .1 .0 .1, g .1 .1))))
+      (ands (les 2 (i % 4)) pairs)
 
 module _ (l : Layout) (img : List ℕ) (i : ℕ) where
-  rule12 : Denies (L.Rule12 l img i) (C.broken12 (l .«data_size») i (C.viewBefore img 2 i) (C.viewBefore img 1 i) (C.viewAt img i))
+  rule12 : Denies (L.Rule12 l img i) (C.broken12 (l .«data_size») img i (C.viewAt img i))
   unfolding seen C.broken12
   rule12 =
-      every-word img i _ (C.broken12 (l .«data_size») i (C.viewBefore img 2 i) (C.viewBefore img 1 i)) refl
-      (λ x. imps (nots (eqs _ _)) (lacks (guards img i 26 (seen x) _ _ (λ m. fits-data _ m _ _))))
+      every-word img i _ (C.broken12 (l .«data_size») img i) refl
+      (λ x. imps (nots (eqs _ _)) (lacks (guards img i 26 (x .rs) _ _ (λ m. fits-data _ m _ _))))
 
-  rule13 : Denies (L.Rule13 l img i) (C.broken13 (l .«code_size») i (C.viewBefore img 2 i) (C.viewBefore img 1 i) (C.viewAt img i))
+  rule13 : Denies (L.Rule13 l img i) (C.broken13 (l .«code_size») img i (C.viewAt img i))
   unfolding seen C.broken13
   rule13 =
-      every-word img i _ (C.broken13 (l .«code_size») i (C.viewBefore img 2 i) (C.viewBefore img 1 i)) refl
-      (λ x. imps (registers (flowOf x)) (lacks (guards img i 27 (seen x) _ _ (λ m. fits-code _ m))))
+      every-word img i _ (C.broken13 (l .«code_size») img i) refl
+      (λ x. imps (registers (flowOf x)) (lacks (guards img i 27 (x .rs) _ _ (λ m. fits-code _ m))))
 
   -- ---- targets
 

@@ -9,8 +9,6 @@ use borrow.Author.Tests.{ltb-true, ltb-false, leb-true, leb-false, eqb-true, eqb
 use Rattle.isa.specs.declared.kind.Instruction.{Instruction}
 use Rattle.isa.specs.declared.reading.Reading.{Reading}
 use Rattle.isa.specs.declared.reading.Reading.the-variants.{Legal, NoInstruction}
-use Rattle.view.specs.declared.View.{View}
-use Rattle.view.specs.View.{nothing, seen, viewOf}
 use Rattle.checker.specs.Lawful.{Not}
 use Rattle.checker.specs.Refusal.{pick}
 
@@ -115,15 +113,15 @@ stops (keeps p) h = absurd (h p)
 
 -- ---- tests on what a word reads as
 
-module _ (P : Instruction → Type 0) (t : View → Bool) where
+module _ (P : Instruction → Type 0) (t : Reading → Bool) where
   -- broken by the instruction that is read; kept where there is none
-  pub every-reading : t nothing ≡ false → ((x : Instruction) → Denies (P x) (t (seen x))) → (r : Reading)
-      → Denies ((x : Instruction) → r ≡ Legal x → P x) (t (viewOf r))
+  pub every-reading : t NoInstruction ≡ false → ((x : Instruction) → Denies (P x) (t (Legal x))) → (r : Reading)
+      → Denies ((x : Instruction) → r ≡ Legal x → P x) (t r)
   every-reading z f (Legal x) = denying (λ p y e. subst P (cc) p) (λ h. h x refl) (f x)
   every-reading z f NoInstruction = rw z (keeps (λ x e. absurd (let y : _≡_ {A = ℕ} 0 1 = cc in omega arith)))
 
   -- said of the instruction that is read; false where there is none
-  pub some-reading : t nothing ≡ false → (r : Reading) → ((x : Instruction) → r ≡ Legal x → Says (P x) (t (seen x)))
-      → Says ((x : Instruction) × ((r ≡ Legal x) × P x)) (t (viewOf r))
+  pub some-reading : t NoInstruction ≡ false → (r : Reading) → ((x : Instruction) → r ≡ Legal x → Says (P x) (t (Legal x)))
+      → Says ((x : Instruction) × ((r ≡ Legal x) × P x)) (t r)
   some-reading z (Legal x) f = saying (λ p. (x, (refl, p))) (λ h. subst P (let e = h .1 .0 in cc) (h .1 .1)) (f x refl)
   some-reading z NoInstruction f = rw z (fails (λ h. let e = h .1 .0 in let y : _≡_ {A = ℕ} 0 1 = cc in omega arith))

@@ -1,41 +1,36 @@
 -- The words of an image in their order: what the parts of the code say, put together.
 use Prim.Native.Nat.{ℕ, zero, suc, _+_, _-_, _*_, _/_, _%_, _≤_, _<_}
 use mathlib.Core.Path.{_≡_, refl, sym, ap, subst, _∙_}
-use mathlib.Core.Bool.{Bool, true, false, not, cond, _||_}
+use mathlib.Core.Bool.{Bool, true, false, not, cond, _||_, false≢true}
 use mathlib.Core.List.{List, [], _∷_}
 use native.Mathlib.Omega.{arith}
 use native.Mathlib.Numerals.{add-one}
 use lib.Dec.{eqb, leb}
 use lib.ListN.{length, take, drop}
-use borrow.Author.Tests.{le-leb, lt-leb, eq-eqb, ne-eqb}
+use borrow.Author.Tests.{le-leb, lt-leb, eq-eqb, ne-eqb, not-true}
 use Rattle.layout.specs.declared.Layout.{Layout}
 use Rattle.layout.specs.Layout.{layoutRefusal, broken1, broken2, broken3, broken4, broken5, broken6}
 use Rattle.layout.proofs.Kept.{kept}
 use Rattle.view.specs.declared.View.{View}
-use Rattle.view.specs.View.{nothing}
+use Rattle.view.specs.View.{nothing, wordView, isBranch, isJump, isBase, isPlain}
+use Rattle.quick.specs.Plain.{PlainWord}
+use Rattle.quick.proofs.Plains.{each}
 use Rattle.checker.specs.declared.verdict.Verdict.{Verdict}
-use Rattle.checker.specs.Rules.{Sized, viewAt, viewBefore, isJump, broken10, broken11, broken12, broken13, broken14, broken15, wordRefusal}
+use Rattle.checker.specs.declared.words.Tried.{Tried}
+use Rattle.checker.specs.Rules.{Sized, wordAt, viewAt, viewBefore, broken10, broken11, broken12, broken13, broken14, broken15, wordRefusal, triedOf}
 use Rattle.checker.specs.Check.{verdict, noPlace, accepted, wordTrials, trialsOf, isWordBroken, isFileBroken, isBroken, firstOf, wordsVerdict, checkOf, codeOf, placedOf}
 use Rattle.checker.specs.Lawful.{Not}
 
--- ---- the two words before
+-- ---- the word before
 
 module _ (img : List ℕ) where
-  pub none-before : (k : ℕ) → nothing ≡ viewBefore img (suc k) 0
+  pub none-before : nothing ≡ viewBefore img 0
   unfolding viewBefore
-  none-before k = rw (lt-leb (suc k) 0 (omega arith))
+  none-before = refl
 
-  pub one-before : (i : ℕ) {v : View} → v ≡ viewAt img i → v ≡ viewBefore img 1 (i + 1)
+  one-before : (i : ℕ) → viewAt img i ≡ viewBefore img (i + 1)
   unfolding viewBefore
-  one-before i e = let z : i + 1 - 1 ≡ i = omega arith in rw (le-leb 1 (i + 1) (omega arith), z, e)
-
-  pub two-before : (i : ℕ) {b : View} → b ≡ viewBefore img 1 i → b ≡ viewBefore img 2 (i + 1)
-  unfolding viewBefore
-  two-before zero e = e
-  two-before (suc i) e =
-      let z : suc i - 1 ≡ suc i + 1 - 2 = omega arith in
-      let f : _ ≡ viewAt img (suc i - 1) = e ∙ (rw (le-leb 1 (suc i) (omega arith))) in
-      f ∙ (rw (le-leb 2 (suc i + 1) (omega arith), z))
+  one-before i = let z : i + 1 - 1 ≡ i = omega arith in rw (le-leb 1 (i + 1) (omega arith), z)
 
 -- ---- a ladder of trials, and the first number that it gives
 
@@ -60,14 +55,13 @@ module _ (l : Layout) (img : List ℕ) where
   -- one word, then the words after it
   pub words-more : (n i : ℕ)
       → wordsVerdict l img (suc n) i
-      ≡ given (λ (k : ℕ). verdict k i) (wordsVerdict l img n (suc i)) (wordRefusal l img i (viewBefore img 2 i) (viewBefore img 1 i) (viewAt img i))
+      ≡ given (λ (k : ℕ). verdict k i) (wordsVerdict l img n (suc i)) (wordRefusal l img i (isBranch (viewBefore img i)) (viewAt img i))
   unfolding wordsVerdict isWordBroken wordRefusal
   words-more n i =
-      let a = viewBefore img 2 i in
-      let b = viewBefore img 1 i in
+      let after = isBranch (viewBefore img i) in
       let v = viewAt img i in
       ladder (λ (k : ℕ). verdict k i) (wordsVerdict l img n (suc i)) (not (v .legal)) (v .barred) (broken10 v) (broken11 v)
-      (broken12 (l .«data_size») i a b v) (broken13 (l .«code_size») i a b v) (broken14 b v) (broken15 l img i v)
+      (broken12 (l .«data_size») img i v) (broken13 (l .«code_size») img i v) (broken14 after v) (broken15 l img i v)
 
   -- the rules of words do not hang on the memory's length
   words-same : (len n i : ℕ) → firstOf (isBroken l len img) (wordTrials n i) ≡ wordsVerdict l img n i
@@ -75,33 +69,62 @@ module _ (l : Layout) (img : List ℕ) where
   words-same len zero i = refl
   words-same len (suc n) i = rw (words-same len n (suc i))
 
--- ---- the loop of the code: i of n words are done, r is what the tests of word i give
+-- ---- a word that is plain need not be read
 
-module _ (l : Layout) (img : List ℕ) (i n : ℕ) {a : View} (p : a ≡ viewBefore img 2 i) where
-  module _ {b v : View} {r : ℕ} (q : b ≡ viewBefore img 1 i) (w : v ≡ viewAt img i) (e : r ≡ wordRefusal l img i a b v) (h : i < n) where
-    more : wordsVerdict l img (n - i) i ≡ given (λ (k : ℕ). verdict k i) (wordsVerdict l img (n - (i + 1)) (i + 1)) r
+neither : (a b : Bool) → a || b ≡ false → (a ≡ false) × (b ≡ false)
+neither true b h = absurd (false≢true (sym h))
+neither false b h = (refl, h)
+
+module _ (l : Layout) (img : List ℕ) (i : ℕ) (after : Bool) where
+  pub plain-tried : (w : ℕ) → w ≡ wordAt img i → PlainWord w → record { number = 0; branch = false } ≡ triedOf l img i after (viewAt img i)
+  unfolding wordRefusal broken10 broken11 broken12 broken13 broken14 broken15 viewAt
+  plain-tried w e h =
+      let v = wordView w in
+      let a = each (v .legal) _ h in
+      let b = each (not (v .barred)) _ (a .1) in
+      let c = each (not (isBase (v .written))) _ (b .1) in
+      let d = each (not (v .link)) _ (c .1) in
+      let f = each (eqb (v .width) 0) _ (d .1) in
+      let g = neither (v .relative) _ (not-true (isBranch v) (f .1)) in
+      let j = neither (v .region) _ (g .1) in
+      rw (← e, a .0, not-true (v .barred) (b .0), not-true (isBase (v .written)) (c .0), not-true (v .link) (d .0), f .0, g .0, j .0, j .1)
+
+  pub tried-read : (w : ℕ) {v : View} {n : ℕ} {b : Bool} → w ≡ wordAt img i → v ≡ wordView w → n ≡ wordRefusal l img i after v → b ≡ isBranch v
+      → record { number = n; branch = b } ≡ triedOf l img i after (viewAt img i)
+  unfolding viewAt
+  tried-read w e p q r = rw (q, r, p, e)
+
+-- ---- the loop of the code: i of n words are done, t is what word i gave
+
+module _ (l : Layout) (img : List ℕ) (i n : ℕ) where
+  module _ {after : Bool} {t : Tried} (q : after ≡ isBranch (viewBefore img i)) (e : t ≡ triedOf l img i after (viewAt img i)) (h : i < n) where
+    more : wordsVerdict l img (n - i) i ≡ given (λ (k : ℕ). verdict k i) (wordsVerdict l img (n - (i + 1)) (i + 1)) (t .number)
     more =
         let z : n - i ≡ suc (n - (i + 1)) = omega arith in
-        rw (z, add-one i) (words-more l img (n - suc i) i ∙ (rw (e, p, q, w)))
+        rw (z, add-one i) (words-more l img (n - suc i) i ∙ (rw (e, q)))
 
-    pub scan-stop : Not (r ≡ 0) → verdict r i ≡ wordsVerdict l img (n - i) i
-    scan-stop k = sym (more ∙ (rw (ne-eqb r 0 k)))
+    pub scan-stop : Not (t .number ≡ 0) → verdict (t .number) i ≡ wordsVerdict l img (n - i) i
+    scan-stop k = sym (more ∙ (rw (ne-eqb (t .number) 0 k)))
 
-    pub scan-go : r ≡ 0 → wordsVerdict l img (n - (i + 1)) (i + 1) ≡ wordsVerdict l img (n - i) i
+    pub scan-go : t .number ≡ 0 → wordsVerdict l img (n - (i + 1)) (i + 1) ≡ wordsVerdict l img (n - i) i
     scan-go k = sym (more ∙ (rw k))
 
-  module _ (s : Sized l img) (m : n ≡ length img / 4) (h : i ≤ n) (k : n ≤ i) where
-    ended : wordsVerdict l img (n - i) i ≡ cond (not (isJump a)) (verdict 16 (n - 2)) accepted
-    unfolding wordsVerdict isWordBroken viewBefore
+    -- what the word leaves to the next
+    pub next-after : t .branch ≡ isBranch (viewBefore img (i + 1))
+    next-after = ap (λ (x : Tried). x .branch) e ∙ ap isBranch (one-before img i)
+
+  module _ {w : ℕ} {b : Bool} (p : w ≡ wordAt img (n - 2)) (q : b ≡ isJump (wordView w)) (h : i ≤ n) (k : n ≤ i) where
+    ended : wordsVerdict l img (n - i) i ≡ cond (not b) (verdict 16 (n - 2)) accepted
+    unfolding wordsVerdict isWordBroken viewAt
     ended =
         let z : n - i ≡ 0 = omega arith in
         let d : i ≡ n = omega arith in
-        rw (z, p, le-leb 2 i (omega (arith, s .least, s .length-is)), d)
+        rw (z, q, p, d)
 
-    pub scan-accepted : isJump a ≡ true → accepted ≡ wordsVerdict l img (n - i) i
+    pub scan-accepted : b ≡ true → accepted ≡ wordsVerdict l img (n - i) i
     scan-accepted e = sym (ended ∙ (rw e))
 
-    pub scan-refused : isJump a ≡ false → verdict 16 (n - 2) ≡ wordsVerdict l img (n - i) i
+    pub scan-refused : b ≡ false → verdict 16 (n - 2) ≡ wordsVerdict l img (n - i) i
     scan-refused e = sym (ended ∙ (rw e))
 
 -- ---- the whole

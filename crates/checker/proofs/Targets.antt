@@ -13,17 +13,13 @@ use Rattle.branch.specs.Branch.{relativeOf, regionOf}
 use Rattle.branch.proofs.Targets.{relative-aligned, region-aligned}
 use Rattle.layout.specs.declared.Layout.{Layout}
 use Rattle.view.specs.declared.View.{View}
-use Rattle.view.specs.View.{wordView}
-use Rattle.checker.specs.Rules.{Sized, viewAt, needsGuard, targetOf, isEntry, lands, broken15}
+use Rattle.view.specs.View.{wordView, needsGuard}
+use Rattle.checker.specs.Rules.{Sized, wordAt, viewAt, targetOf, isEntry, lands, broken15}
 use Rattle.checker.specs.Lawful.{Not}
 
-pub view-at-is : (img : List ℕ) (i : ℕ) {w : ℕ} {v : View} → w ≡ loadOf 4 img (4 * i) → v ≡ wordView w → v ≡ viewAt img i
-unfolding viewAt
-view-at-is img i p q = q ∙ ap wordView p
-
-pub entry-is : (img : List ℕ) (i : ℕ) {v w : View} {s t : Bool} → v ≡ viewAt img i → s ≡ needsGuard v → w ≡ viewAt img (i + 1)
-    → t ≡ needsGuard w → not s && not t ≡ isEntry img i
-unfolding isEntry
+pub entry-is : (img : List ℕ) (i : ℕ) {v w : ℕ} {s t : Bool} → v ≡ wordAt img i → s ≡ needsGuard (wordView v) → w ≡ wordAt img (i + 1)
+    → t ≡ needsGuard (wordView w) → not s && not t ≡ isEntry img i
+unfolding isEntry viewAt
 entry-is img i p q r s = rw (s, r, q, p)
 
 module _ (l : Layout) (img : List ℕ) (t : ℕ) where

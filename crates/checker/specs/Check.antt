@@ -4,10 +4,11 @@ use mathlib.Core.Bool.{Bool, false, cond, not}
 use mathlib.Core.List.{List, [], _∷_}
 use lib.Dec.{eqb, leb}
 use lib.ListN.{length, take, drop}
+use Rattle.view.specs.View.{isBranch, isJump}
 use Rattle.layout.specs.declared.Layout.{Layout}
 use Rattle.layout.specs.Layout.{broken1, broken2, broken3, broken4, broken5, broken6}
 use Rattle.checker.specs.declared.verdict.Verdict.{Verdict}
-use Rattle.checker.specs.Rules.{viewAt, viewBefore, isJump, broken10, broken11, broken12, broken13, broken14, broken15}
+use Rattle.checker.specs.Rules.{viewAt, viewBefore, broken10, broken11, broken12, broken13, broken14, broken15}
 
 -- a rule's number and the place where it is tried; what a refusal hands back
 abbrev pub verdict : ℕ → ℕ → Verdict
@@ -44,9 +45,9 @@ isWordBroken l img n i =
     (cond (eqb n 9) (viewAt img i .barred)
     (cond (eqb n 10) (broken10 (viewAt img i))
     (cond (eqb n 11) (broken11 (viewAt img i))
-    (cond (eqb n 12) (broken12 (l .«data_size») i (viewBefore img 2 i) (viewBefore img 1 i) (viewAt img i))
-    (cond (eqb n 13) (broken13 (l .«code_size») i (viewBefore img 2 i) (viewBefore img 1 i) (viewAt img i))
-    (cond (eqb n 14) (broken14 (viewBefore img 1 i) (viewAt img i))
+    (cond (eqb n 12) (broken12 (l .«data_size») img i (viewAt img i))
+    (cond (eqb n 13) (broken13 (l .«code_size») img i (viewAt img i))
+    (cond (eqb n 14) (broken14 (isBranch (viewBefore img i)) (viewAt img i))
     (cond (eqb n 15) (broken15 l img i (viewAt img i))
     (cond (eqb n 16) (not (isJump (viewAt img i))) false))))))))
 

@@ -2,6 +2,7 @@
 use Prim.Native.Nat.{ℕ, _/_, _%_}
 use mathlib.Core.List.{List, [], _∷_, _++_}
 use Rattle.layout.specs.declared.Layout.{Layout}
+use Rattle.layout.specs.Layout.{layoutOf}
 use Rattle.checker.specs.declared.verdict.Verdict.{Verdict}
 use Rattle.checker.specs.Check.{verdict, noPlace, accepted, checkOf}
 
@@ -14,9 +15,6 @@ bytesOf (w ∷ ws) = w % 256 ∷ w / 256 % 256 ∷ w / 65536 % 256 ∷ w / 16777
 
 abbrev pub lengthM : ℕ
 lengthM = 196608
-
-abbrev pub layoutOf : ℕ → ℕ → ℕ → ℕ → Layout
-layoutOf c s d t = record { «code_base» = c; «code_size» = s; «data_base» = d; «data_size» = t }
 
 abbrev pub layoutM : Layout
 layoutM = layoutOf 0x10000 32 0x20000 64

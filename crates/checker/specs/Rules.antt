@@ -11,7 +11,9 @@ use Rattle.word.specs.Number.{signedOf}
 use Rattle.branch.specs.Branch.{relativeOf, regionOf}
 use Rattle.layout.specs.declared.Layout.{Layout}
 use Rattle.view.specs.declared.View.{View}
-use Rattle.view.specs.View.{nothing, wordView}
+use Rattle.view.specs.View.{nothing, wordView, isBranch, needsGuard, isBase}
+use Rattle.view.specs.Guard.{isMaskOf, maskIn, isMergeOf}
+use Rattle.checker.specs.declared.words.Tried.{Tried}
 
 -- what the rules of layout and image, 1 to 7, leave to those of words
 pub record Sized (l : Layout) (img : List ℕ) : Type 0 where
@@ -22,43 +24,39 @@ pub record Sized (l : Layout) (img : List ℕ) : Type 0 where
   pub inside : l .«code_base» + l .«code_size» ≤ longest
 
 -- word i
+abbrev pub wordAt : List ℕ → ℕ → ℕ
+wordAt img i = loadOf 4 img (4 * i)
+
 unfoldable pub viewAt : List ℕ → ℕ → View
-viewAt img i = wordView (loadOf 4 img (4 * i))
+viewAt img i = wordView (wordAt img i)
 
--- the word k places before word i; nothing before the first
-unfoldable pub viewBefore : List ℕ → ℕ → ℕ → View
-viewBefore img k i = cond (leb k i) (viewAt img (i - k)) nothing
-
--- a branch or jump
-abbrev pub isBranch : View → Bool
-isBranch v = v .relative || (v .region || v .register)
-
--- J, JAL, JR, JALR
-abbrev pub isJump : View → Bool
-isJump v = v .region || v .register
+-- the word before word i; nothing before the first
+unfoldable pub viewBefore : List ℕ → ℕ → View
+viewBefore img i = cond (leb 1 i) (viewAt img (i - 1)) nothing
 
 -- ---- rules of one word
 
 -- writes register 26 or 27
 unfoldable pub broken10 : View → Bool
-broken10 v = eqb (v .written) 26 || eqb (v .written) 27
+broken10 v = isBase (v .written)
 
 -- JALR with rd = rs, or a linking branch with rs = 31
 unfoldable pub broken11 : View → Bool
 broken11 v = v .link && (v .register && eqb (v .rd) (v .rs) || v .relative && eqb (v .rs) 31)
 
--- ---- guards: a and b are the two words before v
+-- ---- guards
 
--- an access, JR or JALR
-abbrev pub needsGuard : View → Bool
-needsGuard v = not (eqb (v .width) 0) || v .register
+-- a is ANDI R,S,m and b is OR R,R,base, and R isn't 0, 26 or 27
+unfoldable pub isGuarded : ℕ → ℕ → ℕ → ℕ → Bool
+isGuarded a b base r = isMaskOf r a && (isMergeOf base r b && (not (eqb r 0) && (not (eqb r 26) && not (eqb r 27))))
 
--- a is ANDI R,S,m and b is OR R,R,base, where R is v's base and isn't 0, 26 or 27
-unfoldable pub isGuarded : View → View → ℕ → View → Bool
-isGuarded a b base v =
-    (a .mask && eqb (a .rt) (v .rs))
-    && ((b .merge && (eqb (b .rd) (v .rs) && (eqb (b .rs) (v .rs) && eqb (b .rt) base)))
-    && (not (eqb (v .rs) 0) && (not (eqb (v .rs) 26) && not (eqb (v .rs) 27))))
+-- the two words before word i are so
+abbrev pub isGuardedAt : List ℕ → ℕ → ℕ → ℕ → Bool
+isGuardedAt img i base r = isGuarded (wordAt img (i - 2)) (wordAt img (i - 1)) base r
+
+-- and this is m
+abbrev pub maskAt : List ℕ → ℕ → ℕ
+maskAt img i = maskIn (wordAt img (i - 2))
 
 -- both words stand in the bundle of word i
 abbrev pub inBundle : ℕ → Bool
@@ -78,20 +76,20 @@ unfoldable pub fitsCode : ℕ → ℕ → Bool
 fitsCode size m = eqb (m % 16) 0 && leb (m + 16) size
 
 -- access without fitting guard
-unfoldable pub broken12 : ℕ → ℕ → View → View → View → Bool
-broken12 size i a b v =
+unfoldable pub broken12 : ℕ → List ℕ → ℕ → View → Bool
+broken12 size img i v =
     not (eqb (v .width) 0)
-    && not (inBundle i && (isGuarded a b 26 v && fitsData size (a .value) (offsetOf (v .value)) (v .width)))
+    && not (inBundle i && (isGuardedAt img i 26 (v .rs) && fitsData size (maskAt img i) (offsetOf (v .value)) (v .width)))
 
 -- JR or JALR without fitting guard
-unfoldable pub broken13 : ℕ → ℕ → View → View → View → Bool
-broken13 size i a b v = v .register && not (inBundle i && (isGuarded a b 27 v && fitsCode size (a .value)))
+unfoldable pub broken13 : ℕ → List ℕ → ℕ → View → Bool
+broken13 size img i v = v .register && not (inBundle i && (isGuardedAt img i 27 (v .rs) && fitsCode size (maskAt img i)))
 
 -- ---- branches
 
--- branch or jump straight after a branch or jump
-unfoldable pub broken14 : View → View → Bool
-broken14 b v = isBranch v && isBranch b
+-- branch or jump straight after a branch or jump: `after` says whether the word before is one
+unfoldable pub broken14 : Bool → View → Bool
+broken14 after v = isBranch v && after
 
 -- the direct target of the branch or jump at pc
 unfoldable pub targetOf : View → ℕ → ℕ
@@ -112,15 +110,18 @@ lands l img t =
 unfoldable pub broken15 : Layout → List ℕ → ℕ → View → Bool
 broken15 l img i v = (v .relative || v .region) && not (lands l img (targetOf v (l .«code_base» + 4 * i)))
 
--- ---- the first of 8 to 15 that a word breaks; 0 where none is
+-- ---- one word: the first of 8 to 15 that it breaks, 0 where none is, and whether it is a branch or jump
 
-unfoldable pub wordRefusal : Layout → List ℕ → ℕ → View → View → View → ℕ
-wordRefusal l img i a b v =
+unfoldable pub wordRefusal : Layout → List ℕ → ℕ → Bool → View → ℕ
+wordRefusal l img i after v =
     cond (not (v .legal)) 8
     (cond (v .barred) 9
     (cond (broken10 v) 10
     (cond (broken11 v) 11
-    (cond (broken12 (l .«data_size») i a b v) 12
-    (cond (broken13 (l .«code_size») i a b v) 13
-    (cond (broken14 b v) 14
+    (cond (broken12 (l .«data_size») img i v) 12
+    (cond (broken13 (l .«code_size») img i v) 13
+    (cond (broken14 after v) 14
     (cond (broken15 l img i v) 15 0)))))))
+
+abbrev pub triedOf : Layout → List ℕ → ℕ → Bool → View → Tried
+triedOf l img i after v = record { number = wordRefusal l img i after v; branch = isBranch v }

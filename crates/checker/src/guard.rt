@@ -1,22 +1,18 @@
 // Guards: the two words before an access, JR or JALR.
 ghost use mathlib.Core.Path.{_≡_};
-ghost use Prim.Native.Nat.{_<_};
+ghost use Prim.Native.Nat.{_+_, _*_, _<_, _≤_};
+ghost use lib.ListN.{length};
 ghost use Rattle.checker.specs.Rules as Spec;
+use crate::image;
 use view::View;
 
-pub(crate) fn needs_guard(v: View) -> bool
-    ensures { λ r. ⌜ r ≡ Spec.needsGuard v ⌝ }
+// a and b are the two words before the one that needs a guard, r is its base.
+fn is_guarded(a: u32, b: u32, base: u32, r: u32) -> bool
+    ensures { λ t. ⌜ t ≡ Spec.isGuarded a b base r ⌝ }
 {
-    (v.width != 0) | v.register
-}
-
-// a and b are the two words before v.
-fn is_guarded(a: View, b: View, base: u32, v: View) -> bool
-    ensures { λ r. ⌜ r ≡ Spec.isGuarded a b base v ⌝ }
-{
-    (a.mask & (a.rt == v.rs))
-        & ((b.merge & ((b.rd == v.rs) & ((b.rs == v.rs) & (b.rt == base))))
-            & ((v.rs != 0) & ((v.rs != 26) & (v.rs != 27))))
+    let mask = quick::guard::is_mask(a, r);
+    let merge = quick::guard::is_merge(b, base, r);
+    mask & (merge & ((r != 0) & ((r != 26) & (r != 27))))
 }
 
 fn fits_data(size: u32, mask: u32, offset: u32, width: u32) -> bool
@@ -37,8 +33,9 @@ fn fits_code(size: u32, mask: u32) -> bool
     (mask % 16 == 0) & ((mask as u64) + 16 <= size as u64)
 }
 
-pub(crate) fn breaks12(data_size: u32, i: usize, a: View, b: View, v: View) -> bool
-    ensures { λ r. ⌜ r ≡ Spec.broken12 «data_size» i a b v ⌝ }
+pub(crate) fn breaks12(data_size: u32, image: &[u8], i: usize, v: View) -> bool
+    requires { ⌜ 4 * i + 4 ≤ length (now image) ⌝ }
+    ensures { λ r. ⌜ r ≡ Spec.broken12 «data_size» (now (image .entry)) i v ⌝ }
 {
     if v.width == 0 {
         return false;
@@ -46,13 +43,16 @@ pub(crate) fn breaks12(data_size: u32, i: usize, a: View, b: View, v: View) -> b
     if i % 4 < 2 {
         return true;
     }
-    let guarded = is_guarded(a, b, 26, v);
-    let fits = fits_data(data_size, a.value, v.value, v.width);
+    let a = image::word_at(image, i - 2);
+    let b = image::word_at(image, i - 1);
+    let guarded = is_guarded(a, b, 26, v.rs);
+    let fits = fits_data(data_size, a % 65536, v.value, v.width);
     !(guarded & fits)
 }
 
-pub(crate) fn breaks13(code_size: u32, i: usize, a: View, b: View, v: View) -> bool
-    ensures { λ r. ⌜ r ≡ Spec.broken13 «code_size» i a b v ⌝ }
+pub(crate) fn breaks13(code_size: u32, image: &[u8], i: usize, v: View) -> bool
+    requires { ⌜ 4 * i + 4 ≤ length (now image) ⌝ }
+    ensures { λ r. ⌜ r ≡ Spec.broken13 «code_size» (now (image .entry)) i v ⌝ }
 {
     if !v.register {
         return false;
@@ -60,7 +60,9 @@ pub(crate) fn breaks13(code_size: u32, i: usize, a: View, b: View, v: View) -> b
     if i % 4 < 2 {
         return true;
     }
-    let guarded = is_guarded(a, b, 27, v);
-    let fits = fits_code(code_size, a.value);
+    let a = image::word_at(image, i - 2);
+    let b = image::word_at(image, i - 1);
+    let guarded = is_guarded(a, b, 27, v.rs);
+    let fits = fits_code(code_size, a % 65536);
     !(guarded & fits)
 }

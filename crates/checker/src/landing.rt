@@ -3,24 +3,17 @@ ghost use mathlib.Core.Path.{_≡_};
 ghost use Prim.Native.Nat.{_+_, _*_, _%_, _≤_};
 ghost use lib.ListN.{length};
 ghost use Rattle.checker.specs.Rules as Spec;
-use crate::guard;
+use crate::image;
 use layout::Layout;
 use view::View;
-
-pub(crate) fn view_at(image: &[u8], i: usize) -> View
-    requires { ⌜ 4 * i + 4 ≤ length (now image) ⌝ }
-    ensures { λ r. ⌜ r ≡ Spec.viewAt (now (image .entry)) i ⌝ }
-{
-    view::of_word(word::bytes::load32(image, 4 * i))
-}
 
 // A branch may come to word i: neither it nor the next needs a guard.
 fn is_entry(image: &[u8], i: usize) -> bool
     requires { ⌜ 4 * i + 8 ≤ length (now image) ⌝ }
     ensures { λ r. ⌜ r ≡ Spec.isEntry (now (image .entry)) i ⌝ }
 {
-    let here = guard::needs_guard(view_at(image, i));
-    let next = guard::needs_guard(view_at(image, i + 1));
+    let here = quick::guard::needs_guard(image::word_at(image, i));
+    let next = quick::guard::needs_guard(image::word_at(image, i + 1));
     !here & !next
 }
 

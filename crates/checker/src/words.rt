@@ -2,19 +2,21 @@
 ghost use mathlib.Core.Path.{_≡_};
 ghost use Prim.Native.Nat.{_+_, _*_, _/_, _≤_};
 ghost use lib.ListN.{length};
+ghost use Rattle.view.specs.View.{isBranch};
 ghost use Rattle.checker.specs.Rules as Spec;
 ghost use Rattle.checker.specs.Check.{wordsVerdict};
 use crate::guard;
+use crate::image;
 use crate::landing;
 use crate::verdict;
 use crate::verdict::Verdict;
 use layout::Layout;
 use view::View;
 
-fn is_branch(v: View) -> bool
-    ensures { λ r. ⌜ r ≡ Spec.isBranch v ⌝ }
-{
-    v.relative | (v.region | v.register)
+// What a word gave: the first rule that it breaks or 0, and whether it is a branch or jump.
+pub struct Tried {
+    pub number: u32,
+    pub branch: bool,
 }
 
 fn breaks10(v: View) -> bool
@@ -29,16 +31,22 @@ fn breaks11(v: View) -> bool
     v.link & ((v.register & (v.rd == v.rs)) | (v.relative & (v.rs == 31)))
 }
 
-fn breaks14(b: View, v: View) -> bool
-    ensures { λ r. ⌜ r ≡ Spec.broken14 b v ⌝ }
+fn is_branch(v: View) -> bool
+    ensures { λ r. ⌜ r ≡ isBranch v ⌝ }
 {
-    is_branch(v) & is_branch(b)
+    v.relative | (v.region | v.register)
 }
 
-// The first of the rules 8 to 15 that word i breaks, 0 where none is; v is its view, a and b are those of the two words before it.
-fn word_refusal(layout: Layout, image: &[u8], i: usize, a: View, b: View, v: View) -> u32
+fn breaks14(after: bool, v: View) -> bool
+    ensures { λ r. ⌜ r ≡ Spec.broken14 after v ⌝ }
+{
+    is_branch(v) & after
+}
+
+// v is the view of word i, and after says whether the word before it is a branch or jump.
+fn word_refusal(layout: Layout, image: &[u8], i: usize, after: bool, v: View) -> u32
     requires { ⌜ Spec.Sized layout (now image) × (4 * i + 4 ≤ length (now image)) ⌝ }
-    ensures { λ r. ⌜ r ≡ Spec.wordRefusal layout (now (image .entry)) i a b v ⌝ }
+    ensures { λ r. ⌜ r ≡ Spec.wordRefusal layout (now (image .entry)) i after v ⌝ }
 {
     if !v.legal {
         return 8;
@@ -52,13 +60,13 @@ fn word_refusal(layout: Layout, image: &[u8], i: usize, a: View, b: View, v: Vie
     if breaks11(v) {
         return 11;
     }
-    if guard::breaks12(layout.data_size, i, a, b, v) {
+    if guard::breaks12(layout.data_size, image, i, v) {
         return 12;
     }
-    if guard::breaks13(layout.code_size, i, a, b, v) {
+    if guard::breaks13(layout.code_size, image, i, v) {
         return 13;
     }
-    if breaks14(b, v) {
+    if breaks14(after, v) {
         return 14;
     }
     if landing::breaks15(layout, image, i, v) {
@@ -67,26 +75,43 @@ fn word_refusal(layout: Layout, image: &[u8], i: usize, a: View, b: View, v: Vie
     0
 }
 
+// A plain word breaks no rule and is no branch: it need not be read.
+fn try_word(layout: Layout, image: &[u8], i: usize, after: bool) -> Tried
+    requires { ⌜ Spec.Sized layout (now image) × (4 * i + 4 ≤ length (now image)) ⌝ }
+    ensures { λ r. ⌜ r ≡ Spec.triedOf layout (now (image .entry)) i after (Spec.viewAt (now (image .entry)) i) ⌝ }
+{
+    let w = image::word_at(image, i);
+    if quick::plain::is_plain(w) {
+        return Tried {
+            number: 0,
+            branch: false,
+        };
+    }
+    let v = view::of_word(w);
+    let number = word_refusal(layout, image, i, after, v);
+    Tried {
+        number,
+        branch: is_branch(v),
+    }
+}
+
 // The words from index 0, each with 8 to 15; then 16.
 pub(crate) fn words_verdict(layout: Layout, image: &[u8]) -> Verdict
     requires { ⌜ Spec.Sized layout (now image) ⌝ }
     ensures { λ r. ⌜ r ≡ wordsVerdict layout (now (image .entry)) (layout .«code_size» / 4) 0 ⌝ }
 {
     let n = image.len() / 4;
-    let mut a = view::nothing();
-    let mut b = view::nothing();
+    let mut after = false;
     let mut i: usize = 0;
     while i < n {
-        let v = landing::view_at(image, i);
-        let number = word_refusal(layout, image, i, a, b, v);
-        if number != 0 {
-            return verdict::at(number, i as u32);
+        let t = try_word(layout, image, i, after);
+        if t.number != 0 {
+            return verdict::at(t.number, i as u32);
         }
-        a = b;
-        b = v;
+        after = t.branch;
         i += 1;
     }
-    if a.region | a.register {
+    if quick::guard::is_jump(image::word_at(image, n - 2)) {
         return verdict::at(0, verdict::NO_PLACE);
     }
     verdict::at(16, (n - 2) as u32)

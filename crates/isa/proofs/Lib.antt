@@ -1,4 +1,5 @@
 pub mod Codes
+pub mod Same
 pub mod Roles
 pub mod Drawings
 pub mod ByKey

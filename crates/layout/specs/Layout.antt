@@ -5,6 +5,9 @@ use lib.Dec.{eqb, leb, ltb}
 use Rattle.word.specs.Bytes.{longest}
 use Rattle.layout.specs.declared.Layout.{Layout}
 
+abbrev pub layoutOf : ℕ → ℕ → ℕ → ℕ → Layout
+layoutOf cb cs db ds = record { «code_base» = cb; «code_size» = cs; «data_base» = db; «data_size» = ds }
+
 -- n is one of the k powers of two from 2 ^ e on
 abbrev pub isPower : ℕ → ℕ → ℕ → Bool
 isPower e zero n = false

@@ -6,11 +6,12 @@ use mathlib.Core.List.{List}
 use lib.Dec.{eqb}
 use lib.ListN.{length}
 use Rattle.layout.specs.declared.Layout.{Layout}
+use Rattle.layout.specs.Layout.{layoutOf}
 use Rattle.checker.specs.declared.verdict.Verdict.{Verdict}
 use Rattle.checker.specs.Check.{verdict, noPlace, checkOf}
 
 abbrev pub layoutFor : ℕ → Layout
-layoutFor size = record { «code_base» = 0x10000; «code_size» = size; «data_base» = 0x20000; «data_size» = 64 }
+layoutFor size = layoutOf 0x10000 size 0x20000 64
 
 -- more is how many bytes the try for one more found
 unfoldable pub verdictOf : List ℕ → ℕ → Verdict

@@ -1,11 +1,7 @@
 -- What the checker's rules look at in a word. The name is ours: document 01 names the instructions one by one.
 use Prim.Native.Nat.{ℕ}
-use mathlib.Core.Bool.{Bool, true, false}
+use mathlib.Core.Bool.{Bool, true, false, not, _&&_, _||_}
 use lib.Dec.{eqb}
-use Rattle.isa.specs.declared.kind.Alu.{Alu}
-use Rattle.isa.specs.declared.kind.Alu.the-variants.{Add, Addu, Sub, Subu, Slt, Sltu, And, Or, Xor, Nor}
-use Rattle.isa.specs.declared.kind.Immediate.{Immediate}
-use Rattle.isa.specs.declared.kind.Immediate.the-variants.{Addi, Addiu, Slti, Sltiu, Andi, Ori, Xori, Lui}
 use Rattle.isa.specs.declared.kind.System.{System}
 use Rattle.isa.specs.declared.kind.System.the-variants.{Syscall, Break, Rfe, Mfc0, Mtc0, Sync}
 use Rattle.isa.specs.declared.kind.Kind.{Kind}
@@ -40,50 +36,6 @@ isBarred (K.Branch k) v = false
 isBarred (K.Trap k) v = false
 isBarred (K.System k) v = isBarredSystem k v
 
--- ---- the two words of a guard
-
-abbrev pub isAndi : Immediate → Bool
-isAndi Addi = false
-isAndi Addiu = false
-isAndi Slti = false
-isAndi Sltiu = false
-isAndi Andi = true
-isAndi Ori = false
-isAndi Xori = false
-isAndi Lui = false
-
-abbrev pub isMask : Kind → Bool
-isMask (K.Alu k) = false
-isMask (K.Immediate k) = isAndi k
-isMask (K.Shift k) = false
-isMask (K.Multiply k) = false
-isMask (K.Access k) = false
-isMask (K.Branch k) = false
-isMask (K.Trap k) = false
-isMask (K.System k) = false
-
-abbrev pub isOr : Alu → Bool
-isOr Add = false
-isOr Addu = false
-isOr Sub = false
-isOr Subu = false
-isOr Slt = false
-isOr Sltu = false
-isOr And = false
-isOr Or = true
-isOr Xor = false
-isOr Nor = false
-
-abbrev pub isMerge : Kind → Bool
-isMerge (K.Alu k) = isOr k
-isMerge (K.Immediate k) = false
-isMerge (K.Shift k) = false
-isMerge (K.Multiply k) = false
-isMerge (K.Access k) = false
-isMerge (K.Branch k) = false
-isMerge (K.Trap k) = false
-isMerge (K.System k) = false
-
 -- ---- flow of control
 
 -- a branch, which counts from its slot
@@ -114,8 +66,6 @@ classed i c =
     record {
       legal = true;
       barred = isBarred (i .kind) (i .value);
-      mask = isMask (i .kind);
-      merge = isMerge (i .kind);
       relative = isRelative (c .flow);
       region = isRegion (c .flow);
       register = isRegister (c .flow);
@@ -123,7 +73,6 @@ classed i c =
       width = c .width;
       written = registerWritten i;
       rs = i .rs;
-      rt = i .rt;
       rd = i .rd;
       value = i .value;
     }
@@ -137,8 +86,6 @@ nothing =
     record {
       legal = false;
       barred = false;
-      mask = false;
-      merge = false;
       relative = false;
       region = false;
       register = false;
@@ -146,7 +93,6 @@ nothing =
       width = 0;
       written = 0;
       rs = 0;
-      rt = 0;
       rd = 0;
       value = 0;
     }
@@ -157,3 +103,26 @@ viewOf NoInstruction = nothing
 
 unfoldable pub wordView : ℕ → View
 wordView w = viewOf (readOf w)
+
+-- ---- what the rules ask of a view
+
+-- a branch or jump
+abbrev pub isBranch : View → Bool
+isBranch v = v .relative || (v .region || v .register)
+
+-- J, JAL, JR, JALR
+abbrev pub isJump : View → Bool
+isJump v = v .region || v .register
+
+-- an access, JR or JALR
+abbrev pub needsGuard : View → Bool
+needsGuard v = not (eqb (v .width) 0) || v .register
+
+-- the registers that hold the bases of data and code
+abbrev pub isBase : ℕ → Bool
+isBase r = eqb r 26 || eqb r 27
+
+-- an instruction that breaks no rule, wherever it stands
+abbrev pub isPlain : View → Bool
+isPlain v =
+    v .legal && (not (v .barred) && (not (isBase (v .written)) && (not (v .link) && (eqb (v .width) 0 && not (isBranch v)))))

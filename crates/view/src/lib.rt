@@ -2,8 +2,6 @@
 ghost use mathlib.Core.Path.{_≡_};
 ghost use Rattle.view.specs.View as Spec;
 use isa::class::Flow;
-use isa::kind::Alu;
-use isa::kind::Immediate;
 use isa::kind::Instruction;
 use isa::kind::Kind;
 use isa::kind::System;
@@ -14,10 +12,6 @@ pub struct View {
     pub legal: bool,
     // MFC0, MTC0, RFE, or BREAK with code 15
     pub barred: bool,
-    // ANDI
-    pub mask: bool,
-    // OR
-    pub merge: bool,
     // a branch, which counts from its slot
     pub relative: bool,
     // J, JAL
@@ -31,7 +25,6 @@ pub struct View {
     // the register written; 0: none
     pub written: u32,
     pub rs: u32,
-    pub rt: u32,
     pub rd: u32,
     pub value: u32,
 }
@@ -61,68 +54,6 @@ fn is_barred(k: Kind, value: u32) -> bool
         Kind::Branch(_) => false,
         Kind::Trap(_) => false,
         Kind::System(x) => is_barred_system(x, value),
-    }
-}
-
-fn is_andi(k: Immediate) -> bool
-    ensures { λ r. ⌜ r ≡ Spec.isAndi k ⌝ }
-{
-    match k {
-        Immediate::Addi => false,
-        Immediate::Addiu => false,
-        Immediate::Slti => false,
-        Immediate::Sltiu => false,
-        Immediate::Andi => true,
-        Immediate::Ori => false,
-        Immediate::Xori => false,
-        Immediate::Lui => false,
-    }
-}
-
-fn is_mask(k: Kind) -> bool
-    ensures { λ r. ⌜ r ≡ Spec.isMask k ⌝ }
-{
-    match k {
-        Kind::Alu(_) => false,
-        Kind::Immediate(x) => is_andi(x),
-        Kind::Shift(_) => false,
-        Kind::Multiply(_) => false,
-        Kind::Access(_) => false,
-        Kind::Branch(_) => false,
-        Kind::Trap(_) => false,
-        Kind::System(_) => false,
-    }
-}
-
-fn is_or(k: Alu) -> bool
-    ensures { λ r. ⌜ r ≡ Spec.isOr k ⌝ }
-{
-    match k {
-        Alu::Add => false,
-        Alu::Addu => false,
-        Alu::Sub => false,
-        Alu::Subu => false,
-        Alu::Slt => false,
-        Alu::Sltu => false,
-        Alu::And => false,
-        Alu::Or => true,
-        Alu::Xor => false,
-        Alu::Nor => false,
-    }
-}
-
-fn is_merge(k: Kind) -> bool
-    ensures { λ r. ⌜ r ≡ Spec.isMerge k ⌝ }
-{
-    match k {
-        Kind::Alu(x) => is_or(x),
-        Kind::Immediate(_) => false,
-        Kind::Shift(_) => false,
-        Kind::Multiply(_) => false,
-        Kind::Access(_) => false,
-        Kind::Branch(_) => false,
-        Kind::Trap(_) => false,
-        Kind::System(_) => false,
     }
 }
 
@@ -169,8 +100,6 @@ fn seen(i: Instruction) -> View
     View {
         legal: true,
         barred: is_barred(kind, i.value),
-        mask: is_mask(kind),
-        merge: is_merge(kind),
         relative: is_relative(flow),
         region: is_region(flow),
         register: is_register(flow),
@@ -178,7 +107,6 @@ fn seen(i: Instruction) -> View
         width: class.width,
         written: isa::class::named(destination, i),
         rs: i.rs,
-        rt: i.rt,
         rd: i.rd,
         value: i.value,
     }
@@ -191,8 +119,6 @@ pub fn nothing() -> View
     View {
         legal: false,
         barred: false,
-        mask: false,
-        merge: false,
         relative: false,
         region: false,
         register: false,
@@ -200,7 +126,6 @@ pub fn nothing() -> View
         width: 0,
         written: 0,
         rs: 0,
-        rt: 0,
         rd: 0,
         value: 0,
     }

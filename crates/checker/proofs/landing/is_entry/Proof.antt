@@ -4,7 +4,7 @@ use Rattle.checker.proofs.landing.is_entry.Statement.{statement}
 use Rattle.checker.proofs.landing.is_entry.Tie as tie
 
 returns : tie.Need-returns
-returns c = entry-is _ _ (c .before .before .before .view-at .ensures) (c .before .before .needs-guard .ensures) (c .before .view-at2 .ensures) (c .needs-guard2 .ensures)
+returns c = entry-is _ _ (c .before .before .before .word-at .ensures) (c .before .before .needs-guard .ensures) (c .before .word-at2 .ensures) (c .needs-guard2 .ensures)
 
 pub is-entry-spec : {M : Type 1} → statement M
 is-entry-spec =

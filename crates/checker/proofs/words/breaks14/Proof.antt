@@ -5,7 +5,7 @@ use Rattle.checker.proofs.words.breaks14.Tie as tie
 
 returns : tie.Need-returns
 unfolding broken14
-returns c = rw (c .before .is-branch .ensures, c .is-branch2 .ensures)
+returns c = rw (c .is-branch .ensures)
 
 pub breaks14-spec : {M : Type 1} → statement M
-breaks14-spec = tie.close (tie.spec (λ c κs. search needs) (λ c κs. search needs) returns)
+breaks14-spec = tie.close (tie.spec (λ c κs. search needs) returns)

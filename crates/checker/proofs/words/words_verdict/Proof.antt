@@ -1,54 +1,56 @@
-use native.Mathlib.Nat.{sub-zero}
-use Rattle.checker.proofs.Scan.{none-before, one-before, two-before, scan-stop, scan-go, scan-accepted, scan-refused}
-use borrow.Author.Needs.{needs}
+use Rattle.checker.proofs.Scan.{none-before, next-after, scan-stop, scan-go, scan-accepted, scan-refused}
 use Rattle.checker.specs.Check.{wordsVerdict}
 use Rattle.checker.specs.Rules.{viewBefore}
-use native.Mathlib.Omega.{arith}
+use Rattle.view.specs.View.{isBranch}
+use borrow.Author.Needs.{needs}
 use lib.ListN.{length}
-use mathlib.Core.Path.{_≡_, refl, sym, ap, _∙_}
+use native.Mathlib.Omega.{arith}
+use native.Mathlib.Nat.{sub-zero}
+use mathlib.Core.Path.{_≡_, refl, ap, _∙_}
 use Prim.Native.Nat.{ℕ, _+_, _-_, _*_, _/_, _≤_}
 use Rattle.checker.proofs.words.words_verdict.Statement.{statement}
 use Rattle.checker.proofs.words.words_verdict.Tie as tie
 
 abbrev Inv-loop : tie.InvT-loop
-Inv-loop layout image n a₀ b₀ i₀ a b i =
+Inv-loop layout image n after₀ i₀ after i =
     (i ≤ n)
     × ((n ≡ length image / 4)
-    × ((a ≡ viewBefore image 2 i)
-    × ((b ≡ viewBefore image 1 i) × (wordsVerdict layout image (n - i) i ≡ wordsVerdict layout image n 0))))
+    × ((after ≡ isBranch (viewBefore image i)) × (wordsVerdict layout image (n - i) i ≡ wordsVerdict layout image n 0)))
 
 abbrev μ-loop : tie.MeasureT-loop
-μ-loop layout image n a₀ b₀ i₀ a b i = n - i
+μ-loop layout image n after₀ i₀ after i = n - i
 
 loop-holds : tie.Need-loop-holds Inv-loop μ-loop
-loop-holds c = (omega arith, (refl, (c .before .nothing .ensures ∙ none-before _ 1, (c .nothing2 .ensures ∙ none-before _ 0, rw sub-zero))))
+loop-holds c = (omega arith, (refl, (ap isBranch (none-before _), rw sub-zero)))
 
 returns : tie.Need-returns Inv-loop μ-loop
 returns c =
-    let s = c .before .before .before .before .before .before .before .before .before in
+    let s = c .before .before .before .before .before .before .before in
     let v = c .before .before .before .before .before .loop .inv .1 .1 in
-    let e = scan-stop _ _ _ _ (v .0) (v .1 .0) (c .before .before .before .view-at .ensures) (c .before .before .word-refusal .ensures) (c .before .before .before .before .loop-test .taken) (c .before .if1 .taken) in
-    c .at .ensures ∙ e ∙ v .1 .1 ∙ ap (λ (k : ℕ). wordsVerdict (s .args .layout) (s .args .image .now) (k / 4) 0) (s .pre .length-is)
+    let e = scan-stop _ _ _ _ (v .0) (c .before .before .before .try-word .ensures) (c .before .before .before .before .loop-test .taken) (c .before .if1 .taken) in
+    c .at .ensures ∙ e ∙ v .1 ∙ ap (λ (k : ℕ). wordsVerdict (s .args .layout) (s .args .image .now) (k / 4) 0) (s .pre .length-is)
 
 loop-again : tie.Need-loop-again Inv-loop μ-loop
 loop-again c =
     let v = c .before .before .before .before .loop .inv .1 .1 in
-    let e = scan-go _ _ _ _ (v .0) (v .1 .0) (c .before .before .view-at .ensures) (c .before .word-refusal .ensures) (c .before .before .before .loop-test .taken) (c .if1 .left) in
-    (omega arith, (refl, (two-before _ _ (v .1 .0), (one-before _ _ (c .before .before .view-at .ensures), e ∙ v .1 .1))))
+    let t = c .before .before .try-word .ensures in
+    let l = c .before .before .before .loop-test .taken in
+    let e = scan-go _ _ _ _ (v .0) t l (c .if1 .left) in
+    (omega arith, (refl, (next-after _ _ _ _ (v .0) t l, e ∙ v .1)))
 
 returns-2 : tie.Need-returns-2 Inv-loop μ-loop
 returns-2 c =
-    let s = c .before .before .before .before .before .before .before .before in
-    let v = c .before .before .before .before .loop .inv in
-    let e = scan-accepted _ _ _ _ (v .1 .1 .0) (s .pre) (v .1 .0) (v .0) (c .before .before .before .loop-test .left) (c .before .if2 .taken) in
-    c .at2 .ensures ∙ e ∙ v .1 .1 .1 .1 ∙ ap (λ (k : ℕ). wordsVerdict (s .args .layout) (s .args .image .now) (k / 4) 0) (s .pre .length-is)
+    let s = c .before .before .before .before .before .before .before in
+    let v = c .before .before .before .before .before .loop .inv in
+    let e = scan-accepted _ _ _ _ (c .before .before .before .word-at .ensures) (c .before .before .is-jump .ensures) (v .0) (c .before .before .before .before .loop-test .left) (c .before .if2 .taken) in
+    c .at2 .ensures ∙ e ∙ v .1 .1 .1 ∙ ap (λ (k : ℕ). wordsVerdict (s .args .layout) (s .args .image .now) (k / 4) 0) (s .pre .length-is)
 
 returns-3 : tie.Need-returns-3 Inv-loop μ-loop
 returns-3 c =
-    let s = c .before .before .before .before .before .before .before .before in
-    let v = c .before .before .before .before .loop .inv in
-    let e = scan-refused _ _ _ _ (v .1 .1 .0) (s .pre) (v .1 .0) (v .0) (c .before .before .before .loop-test .left) (c .before .if2 .left) in
-    c .at3 .ensures ∙ e ∙ v .1 .1 .1 .1 ∙ ap (λ (k : ℕ). wordsVerdict (s .args .layout) (s .args .image .now) (k / 4) 0) (s .pre .length-is)
+    let s = c .before .before .before .before .before .before .before in
+    let v = c .before .before .before .before .before .loop .inv in
+    let e = scan-refused _ _ _ _ (c .before .before .before .word-at .ensures) (c .before .before .is-jump .ensures) (v .0) (c .before .before .before .before .loop-test .left) (c .before .if2 .left) in
+    c .at3 .ensures ∙ e ∙ v .1 .1 .1 ∙ ap (λ (k : ℕ). wordsVerdict (s .args .layout) (s .args .image .now) (k / 4) 0) (s .pre .length-is)
 
 pub words-verdict-spec : {M : Type 1} → statement M
 words-verdict-spec =
@@ -56,10 +58,7 @@ words-verdict-spec =
     (tie.spec
     Inv-loop
     μ-loop
-    (λ c κs. search needs)
-    (λ c κs. search needs)
     loop-holds
-    (λ c κs. search needs)
     (λ c κs. search needs)
     (λ c. search needs)
     (λ c κs. search needs)
@@ -67,6 +66,9 @@ words-verdict-spec =
     (λ c. search needs)
     (λ c. search needs)
     loop-again
+    (λ c. search needs)
+    (λ c κs. search needs)
+    (λ c κs. search needs)
     (λ c κs. search needs)
     returns-2
     (λ c. search needs)

@@ -1,0 +1,4 @@
+pub mod Patterns
+pub mod Sets
+pub mod Plains
+pub mod Guards
