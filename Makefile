@@ -1,9 +1,10 @@
-# make: proves and builds everything that the sample needs, and lists the sample module.
-# make test: the test command: formatting, the archive and its host tests, proofs, must-fail edits, programs.
+# make: proves and builds the verdict program, and prints its verdict on the sample module.
+# make test: the test command: formatting, proofs, must-fail edits, programs, the archive and its host tests.
 # make archive: the calls for C, as a library to link with.
 # make host: the example host program.
 # make host-test: the calls from C, the example host and the verdict program, tested.
 # make bench: speed beside plain C.
+SHELL = /bin/bash
 CC = cc
 CFLAGS = -O2 -Wall -Wextra -Werror -Iinclude -Ibench
 ARCHIVE = target/libcc100.a
@@ -17,14 +18,15 @@ PLAIN = bench/plain_read.c bench/plain_step.c bench/plain_check.c
 
 sample:
 	@mkdir -p target
-	@echo "proving and building (about two minutes the first time) ..."
-	@rt check listing > target/sample.log 2>&1 || { cat target/sample.log; exit 1; }
-	@target/bin/listing < samples/m.module
+	@echo "proving and building (about three minutes the first time) ..."
+	@rt check verdict listing > target/sample.log 2>&1 || { cat target/sample.log; exit 1; }
+	@target/bin/verdict < samples/m.module
 
+# The host tests link what has just been proved. They stand after it, and the toolchain's own last line is then said once more.
 test:
 	rt fmt --check
-	@$(MAKE) --no-print-directory host-test
-	rt ci
+	@log=$$(mktemp) && trap "rm -f $$log" EXIT && set -o pipefail && \
+	rt ci | tee $$log && $(MAKE) --no-print-directory host-test && tail -n 1 $$log
 
 archive:
 	@mkdir -p target/archive

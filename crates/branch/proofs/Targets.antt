@@ -1,5 +1,5 @@
 -- Branches and jumps lead to multiples of four.
-use Prim.Native.Nat.{ℕ, _+_, _*_, _-_, _%_, _/_, _^_, _≤_, _<_}
+use Prim.Native.Nat.{ℕ, _*_, _-_, _%_, _^_, _≤_, _<_}
 use mathlib.Core.Path.{_≡_}
 use mathlib.Core.Logic.{⊎-elim}
 use native.Mathlib.Omega.{arith}

@@ -1,13 +1,11 @@
 -- Guards: what the tests of the code say.
 use Prim.Native.Nat.{ℕ, _+_, _-_, _%_, _^_, _≤_, _<_}
-use mathlib.Core.Path.{_≡_, refl, sym, ap, _∙_}
+use mathlib.Core.Path.{_≡_, refl, ap}
 use mathlib.Core.Bool.{Bool, true, false, not, _&&_}
 use mathlib.Core.List.{List}
 use native.Mathlib.Omega.{arith}
 use lib.Dec.{eqb, leb}
-use lib.IntN.{ℤ, pos, negsuc}
 use borrow.Author.Tests.{ne-eqb, lt-leb, le-leb, not-true, not-false}
-use Rattle.word.specs.Number.{signedOf}
 use Rattle.word.proofs.Numbers.{signed-low, signed-high}
 use Rattle.view.specs.declared.View.{View}
 use Rattle.view.specs.Guard.{isMaskOf, maskIn}

@@ -9,7 +9,6 @@ use lib.Dec.{T, eqb, leb, ltb}
 use lib.IntN.{ℤ, pos, negsuc}
 use lib.ListN.{length}
 use lib.Pow.{pow-mono, pow-lt}
-use borrow.Author.Tests.{le-leb}
 use Rattle.word.specs.Bytes.{longest, loadOf}
 use Rattle.isa.specs.declared.kind.Alu.the-variants.{Or}
 use Rattle.isa.specs.declared.kind.Immediate.the-variants.{Andi}

@@ -1,24 +1,24 @@
 -- The words of an image in their order: what the parts of the code say, put together.
-use Prim.Native.Nat.{ℕ, zero, suc, _+_, _-_, _*_, _/_, _%_, _≤_, _<_}
-use mathlib.Core.Path.{_≡_, refl, sym, ap, subst, _∙_}
+use Prim.Native.Nat.{ℕ, zero, suc, _+_, _-_, _/_, _≤_, _<_}
+use mathlib.Core.Path.{_≡_, refl, sym, ap, _∙_}
 use mathlib.Core.Bool.{Bool, true, false, not, cond, _||_, false≢true}
-use mathlib.Core.List.{List, [], _∷_}
+use mathlib.Core.List.{List}
 use native.Mathlib.Omega.{arith}
 use native.Mathlib.Numerals.{add-one}
-use lib.Dec.{eqb, leb}
+use lib.Dec.{eqb}
 use lib.ListN.{length, take, drop}
-use borrow.Author.Tests.{le-leb, lt-leb, eq-eqb, ne-eqb, not-true}
+use borrow.Author.Tests.{le-leb, eq-eqb, ne-eqb, not-true}
 use Rattle.layout.specs.declared.Layout.{Layout}
 use Rattle.layout.specs.Layout.{layoutRefusal, broken1, broken2, broken3, broken4, broken5, broken6}
 use Rattle.layout.proofs.Kept.{kept}
 use Rattle.view.specs.declared.View.{View}
-use Rattle.view.specs.View.{nothing, wordView, isBranch, isJump, isBase, isPlain}
+use Rattle.view.specs.View.{nothing, wordView, isBranch, isJump, isBase}
 use Rattle.quick.specs.Plain.{PlainWord}
 use Rattle.quick.proofs.Plains.{each}
 use Rattle.checker.specs.declared.verdict.Verdict.{Verdict}
 use Rattle.checker.specs.declared.words.Tried.{Tried}
 use Rattle.checker.specs.Rules.{Sized, wordAt, viewAt, viewBefore, broken10, broken11, broken12, broken13, broken14, broken15, wordRefusal, triedOf}
-use Rattle.checker.specs.Check.{verdict, noPlace, accepted, wordTrials, trialsOf, isWordBroken, isFileBroken, isBroken, firstOf, wordsVerdict, checkOf, codeOf, placedOf}
+use Rattle.checker.specs.Check.{verdict, noPlace, accepted, wordTrials, isWordBroken, isFileBroken, isBroken, firstOf, wordsVerdict, checkOf, codeOf, placedOf}
 use Rattle.checker.specs.Lawful.{Not}
 
 -- ---- the word before

@@ -1,13 +1,11 @@
 -- Views of words in an image, and where branches lead: what the tests of the code say.
-use Prim.Native.Nat.{ℕ, _+_, _-_, _*_, _/_, _%_, _^_, _≤_, _<_}
-use mathlib.Core.Path.{_≡_, sym, ap, _∙_}
+use Prim.Native.Nat.{ℕ, _+_, _-_, _*_, _/_, _%_, _≤_, _<_}
+use mathlib.Core.Path.{_≡_}
 use mathlib.Core.Bool.{Bool, true, false, not, cond, _&&_, _||_}
 use mathlib.Core.List.{List}
 use native.Mathlib.Omega.{arith}
-use lib.Dec.{eqb, leb, ltb}
 use lib.ListN.{length}
 use borrow.Author.Tests.{lt-leb, le-leb, lt-ltb, le-ltb, eq-eqb, ne-eqb}
-use Rattle.word.specs.Bytes.{loadOf, longest}
 use Rattle.effect.specs.Sound.{Aligned}
 use Rattle.branch.specs.Branch.{relativeOf, regionOf}
 use Rattle.branch.proofs.Targets.{relative-aligned, region-aligned}

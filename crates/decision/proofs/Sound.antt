@@ -1,20 +1,17 @@
 -- Every effect of an instruction with operands in range is sound: one clause for each instruction.
-use Prim.Native.Nat.{ℕ, _+_, _*_, _-_, _%_, _^_, _≤_, _<_}
+use Prim.Native.Nat.{ℕ, _+_, _*_, _-_, _%_, _^_, _<_}
 use mathlib.Core.Path.{_≡_, refl}
-use mathlib.Core.Logic.{⊎-elim}
 use mathlib.Core.Bool.{Bool, true, false, cond, not, _&&_}
 use lib.IntN.{ℤ, _*ℤ_}
 use lib.Signed.{quotZ, remZ, shrZ}
 use native.Mathlib.Omega.{arith}
 use native.Mathlib.Nat.{div-le-self, mod-le}
 use lib.Dec.{leb, eqb}
-use lib.Bits.{bitAnd, and-lt, or-lt, xor-lt}
+use lib.Bits.{and-lt, or-lt, xor-lt}
 use borrow.Author.Tests.{leb-true, eqb-true}
-use Rattle.word.specs.Number.{signedOf, fitsOf, extendOf}
-use Rattle.word.proofs.Bits.{mask-mod}
-use Rattle.signed.proofs.Integers.{lt-or-ge}
+use Rattle.word.specs.Number.{signedOf, fitsOf}
 use Rattle.signed.proofs.Words.{product-below}
-use Rattle.word.proofs.Numbers.{wrap-below, extend-clear, extend-set}
+use Rattle.word.proofs.Numbers.{wrap-below}
 use Rattle.isa.specs.Class.{classOf}
 use Rattle.isa.proofs.RoundTrip.{Operands}
 use Rattle.isa.specs.declared.kind.Instruction.{Instruction}
@@ -42,7 +39,7 @@ use Rattle.effect.specs.declared.effect.Effect.{Effect}
 use Rattle.effect.specs.declared.effect.Effect.the-variants.{Exit, Advance, Write, Pair, Jump, Link}
 use Rattle.arithmetic.specs.Arithmetic.{aluOf, immediateOf, shiftOf, multiplyOf, bit, checked, product, divided, shiftedLeft, shiftedRight, shiftedSigned}
 use Rattle.access.specs.Access.{accessOf, addressOf, reaches, loadIf, storeIf, conditional}
-use Rattle.branch.specs.Branch.{branchOf, branchIf, linkIf, jumpIf, slotOf, linkOf, relativeOf, regionOf}
+use Rattle.branch.specs.Branch.{branchOf, branchIf, linkIf, jumpIf, linkOf}
 use Rattle.trap.specs.Trap.{trapOf, trapIf}
 use Rattle.system.specs.System.{systemOf, controlOf, restored, systemCallOf, breakpointOf, privileged, isUser}
 use Rattle.branch.proofs.Targets.{slot-aligned, relative-aligned, region-aligned}

@@ -1,7 +1,6 @@
 -- Kinds compared by their keys, and tests of kinds compared along the list.
 use mathlib.Core.Path.{_≡_, refl, ap, sym, _∙_}
 use mathlib.Core.Bool.{Bool, true, false, cond, not}
-use Prim.Native.Nat.{ℕ}
 use lib.Dec.{T, eqb}
 use Rattle.isa.specs.declared.kind.Kind.{Kind}
 use Rattle.isa.specs.Table.{instructions}

@@ -1,16 +1,16 @@
 -- What a layout that is not refused keeps to.
-use Prim.Native.Nat.{ℕ, suc, _+_, _-_, _%_, _^_, _≤_, _<_}
+use Prim.Native.Nat.{ℕ, suc, _+_, _-_, _%_, _^_, _≤_}
 use mathlib.Core.Path.{_≡_, refl, sym, subst, ap, _∙_}
-use mathlib.Core.Bool.{Bool, true, false, cond, not, _&&_}
+use mathlib.Core.Bool.{Bool, true, false, cond}
 use native.Mathlib.Omega.{arith}
 use native.Mathlib.Nat.{mod-self}
-use lib.Dec.{eqb, leb, ltb}
+use lib.Dec.{eqb, leb}
 use lib.Pow.{pow-mono, mod-mod-pow}
 use borrow.Author.Tests.{eqb-true, leb-true, ltb-false, not-false}
 use Rattle.word.specs.Bytes.{longest}
 use Rattle.word.proofs.Choice.{both}
 use Rattle.layout.specs.declared.Layout.{Layout}
-use Rattle.layout.specs.Layout.{isCodeSize, isPlaced, broken1, broken2, broken3, broken4, broken5, broken6, layoutRefusal}
+use Rattle.layout.specs.Layout.{isCodeSize, isPlaced, broken1, broken2, broken3, broken4, layoutRefusal}
 use Rattle.layout.proofs.Sizes.{Exponent, exponent-of}
 
 -- of the memory and the code area

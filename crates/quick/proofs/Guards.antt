@@ -1,5 +1,5 @@
 -- Words of a guard, words that need one, and jumps, told by their fields.
-use Prim.Native.Nat.{ℕ, _+_, _*_, _/_, _%_, _^_}
+use Prim.Native.Nat.{ℕ, _%_, _^_}
 use mathlib.Core.Path.{_≡_, refl, ap, sym, subst, _∙_}
 use mathlib.Core.Bool.{Bool, true, false, cond, not, _&&_, _||_, false≢true}
 use native.Mathlib.Omega.{arith}
@@ -23,13 +23,13 @@ use Rattle.isa.specs.Reading.{accepts, fits, decodeOf, drawingFor, fitsKind, re
 use Rattle.isa.proofs.Codes.{keyOf, every, every-kind, both}
 use Rattle.isa.proofs.Same.{is, same-kind, same-test}
 use Rattle.isa.proofs.Roles.{is-true}
-use Rattle.isa.proofs.Drawings.{Matched, matched}
-use Rattle.isa.proofs.ByKey.{Came, came, read-fits}
+use Rattle.isa.proofs.Drawings.{matched}
+use Rattle.isa.proofs.ByKey.{came, read-fits}
 use Rattle.view.specs.View.{isRegion, isRegister, seen, viewOf, wordView, isJump, needsGuard}
-use Rattle.view.specs.Guard.{isMask, isMerge, masks, merges, valueIn, isMaskOf, maskIn, isMergeOf}
+use Rattle.view.specs.Guard.{isMask, isMerge, masks, merges, isMaskOf, maskIn, isMergeOf}
 use Rattle.quick.specs.Set.{isIn}
 use Rattle.quick.proofs.Patterns.{any, settlesAll, pattern-fits, opcode}
-use Rattle.quick.proofs.Sets.{leads, Led, led}
+use Rattle.quick.proofs.Sets.{leads, led}
 use Rattle.quick.proofs.Plains.{each}
 
 -- ---- a test of the kind that is read
@@ -101,18 +101,19 @@ implied : (a b : Bool) → T (not a || b) → a ≡ true → T b
 implied true b h e = h
 implied false b h e = absurd (false≢true e)
 
-module _ (f : Fields) (fit : Fit f) where
-  -- the opcodes of accesses
-  told-access : kindIs accesses (readFields f) ≡ isIn 0x01010b3b00000000 (f .op)
-  unfolding isIn
-  told-access = go (isIn 0x01010b3b00000000 (f .op)) refl
-    where
-      inside : (k : Kind) → T (not (accesses k) || (isCode (drawingFor k .op) && isIn 0x01010b3b00000000 (rowOf k .code)))
-      inside = every-kind (λ k. not (accesses k) || (isCode (drawingFor k .op) && isIn 0x01010b3b00000000 (rowOf k .code))) tt
+-- the opcode of an access is in the set
+abbrev holdsAccess : ℕ → Kind → Bool
+holdsAccess set k = not (accesses k) || (isCode (drawingFor k .op) && isIn set (rowOf k .code))
 
-      go : (b : Bool) → isIn 0x01010b3b00000000 (f .op) ≡ b → kindIs accesses (readFields f) ≡ b
+module _ (f : Fields) (fit : Fit f) where
+  -- a set of opcodes: each leads to an access, and that of each access is in it
+  told-access : (set : ℕ) → T (leads set 0 (λ k. accesses k && settlesAll (opcode any) (drawingFor k))) → T (every (holdsAccess set) instructions)
+      → kindIs accesses (readFields f) ≡ isIn set (f .op)
+  told-access set h inside = go (isIn set (f .op)) refl
+    where
+      go : (b : Bool) → isIn set (f .op) ≡ b → kindIs accesses (readFields f) ≡ b
       go true e =
-          let k = led 0x01010b3b00000000 0 (λ k. accesses k && settlesAll (opcode any) (drawingFor k)) tt (f .op) (fit .op) e in
+          let k = led set 0 (λ k. accesses k && settlesAll (opcode any) (drawingFor k)) h (f .op) (fit .op) e in
           let t = both (accesses (k .kind)) _ (k .passed) in
           told-true f accesses (k .kind)
           (pattern-fits (opcode any) (drawingFor (k .kind)) (rowOf (k .kind) .code) f (t .1)
@@ -122,9 +123,9 @@ module _ (f : Fields) (fit : Fit f) where
         where
           away : (k : Kind) → T (fitsKind k f) → accesses k ≡ true → ⊥
           away k h p =
-              let t = both (isCode (drawingFor k .op)) _ (implied (accesses k) _ (inside k) p) in
+              let t = both (isCode (drawingFor k .op)) _ (implied (accesses k) _ (every-kind (holdsAccess set) inside k) p) in
               let c : f .op ≡ rowOf k .code = is-code (drawingFor k .op) (rowOf k .code) (f .op) (t .0) (matched (drawingFor k) (rowOf k .code) f h .op) in
-              false≢true (sym e ∙ (rw c (is-true (isIn 0x01010b3b00000000 (rowOf k .code)) (t .1))))
+              false≢true (sym e ∙ (rw c (is-true (isIn set (rowOf k .code)) (t .1))))
 
   -- JR and JALR
   told-register : kindIs byRegister (readFields f) ≡ fitsKind (K.Branch Jr) f || fitsKind (K.Branch Jalr) f
@@ -181,9 +182,11 @@ module _ (w : ℕ) {f : Fields} (e : f ≡ cutOf w) (fit : Fit f) where
   unfolding wordView readOf fits
   register-jump = rw (← e, register-view (readFields f), told-register f fit)
 
-  pub needs-guard : {a b : Bool} → a ≡ isIn 0x01010b3b00000000 (f .op) → b ≡ wordView w .register → a || b ≡ needsGuard (wordView w)
+  pub needs-guard : (set : ℕ) {a b : Bool} → a ≡ isIn set (f .op) → b ≡ wordView w .register
+      → T (leads set 0 (λ k. accesses k && settlesAll (opcode any) (drawingFor k))) → T (every (holdsAccess set) instructions)
+      → a || b ≡ needsGuard (wordView w)
   unfolding wordView readOf
-  needs-guard p q = rw (p, q, ← e, access-view (readFields f), told-access f fit)
+  needs-guard set p q h inside = rw (p, q, ← e, access-view (readFields f), told-access f fit set h inside)
 
   pub jumps : {b : Bool} → b ≡ wordView w .register → (eqb (f .op) 2 || eqb (f .op) 3) || b ≡ isJump (wordView w)
   unfolding wordView readOf

@@ -1,9 +1,8 @@
 -- Words that the code tells to be plain are plain.
-use Prim.Native.Nat.{ℕ, _+_, _*_, _<_}
+use Prim.Native.Nat.{ℕ, _<_}
 use mathlib.Core.Path.{_≡_, refl, ap, sym, _∙_}
 use mathlib.Core.Bool.{Bool, true, false, not, _&&_, _||_, false≢true}
 use mathlib.Core.Logic.{_⊎_, inl, inr, ⊎-elim}
-use native.Mathlib.Omega.{arith}
 use lib.Dec.{T, eqb}
 use borrow.Author.Tests.{eqb-true}
 use Rattle.word.specs.declared.field.Fields.{Fields}
@@ -19,16 +18,16 @@ use Rattle.isa.specs.declared.format.Role.{Role}
 use Rattle.isa.specs.declared.format.Role.the-variants.{Operand, Control, Fixed, Code, Part}
 use Rattle.isa.specs.Table.{rowOf}
 use Rattle.isa.specs.Class.{classOf, named, registerWritten}
-use Rattle.isa.specs.Reading.{operand, decodeOf, drawingFor, readFields, readOf}
-use Rattle.isa.proofs.Codes.{keyOf, keyIn, both}
+use Rattle.isa.specs.Reading.{operand, decodeOf, drawingFor, readOf}
+use Rattle.isa.proofs.Codes.{both}
 use Rattle.isa.proofs.Roles.{is-true}
 use Rattle.isa.proofs.Drawings.{and-true}
-use Rattle.isa.proofs.ByKey.{in-special, at-opcode, direct, read-fits}
-use Rattle.view.specs.View.{isBarred, isRelative, isRegion, isRegister, seen, viewOf, wordView, isBranch, isBase, isPlain}
+use Rattle.isa.proofs.ByKey.{read-fits}
+use Rattle.view.specs.View.{isBarred, isRelative, isRegion, isRegister, seen, wordView, isBase, isPlain}
 use Rattle.quick.specs.Set.{isIn}
 use Rattle.quick.specs.Plain.{Plain, PlainWord}
-use Rattle.quick.proofs.Patterns.{Known, any, blank, Pattern, Holds, settlesAll, pattern-fits, special, opcode}
-use Rattle.quick.proofs.Sets.{leads, Led, led}
+use Rattle.quick.proofs.Patterns.{any, blank, Pattern, Holds, settlesAll, pattern-fits, special, opcode}
+use Rattle.quick.proofs.Sets.{leads, led}
 
 -- ---- what must hold of the kind
 
@@ -147,63 +146,62 @@ false-not true h = absurd (false≢true h)
 false-not false h = refl
 
 module _ (f : Fields) (fit : Fit f) where
-  module _ {a b g : Bool} (z : f .op ≡ 0) (pg : g ≡ isBase (f .rd)) (pa : a ≡ isIn 0x00000cff000000d0 (f .funct))
-      (pb : b ≡ isIn 0xd (f .funct)) where
+  -- a set's codes are tried along the whole set: h
+  module _ {a b g : Bool} (z : f .op ≡ 0) (pg : g ≡ isBase (f .rd)) (sa sb : ℕ) (pa : a ≡ isIn sa (f .funct)) (pb : b ≡ isIn sb (f .funct))
+      (ha : T (leads sa 1 (plainBy true (special any any any blank)))) (hb : T (leads sb 1 (plainBy true (special blank any any any)))) where
     pub frequent-plain : (a && eqb (f .shift) 0) || (b && eqb (f .rs) 0) ≡ true → not g ≡ true → Plain f
-    unfolding isIn
     frequent-plain h k = ⊎-elim three shifts (either _ _ h) (sym pg ∙ false-not g k)
       where
         three : a && eqb (f .shift) 0 ≡ true → isBase (f .rd) ≡ false → Plain f
         three y s =
             let q = each a _ y in
-            plain-in true (special any any any blank) 1 0x00000cff000000d0 tt f (f .funct) (fit .funct) (sym pa ∙ q .0)
+            plain-in true (special any any any blank) 1 sa ha f (f .funct) (fit .funct) (sym pa ∙ q .0)
             (record { op = z; rs = tt; rt = tt; rd = tt; shift = eqb-true _ _ (q .1); funct = refl }) s
 
         shifts : b && eqb (f .rs) 0 ≡ true → isBase (f .rd) ≡ false → Plain f
         shifts y s =
             let q = each b _ y in
-            plain-in true (special blank any any any) 1 0xd tt f (f .funct) (fit .funct) (sym pb ∙ q .0)
+            plain-in true (special blank any any any) 1 sb hb f (f .funct) (fit .funct) (sym pb ∙ q .0)
             (record { op = z; rs = eqb-true _ _ (q .1); rt = tt; rd = tt; shift = tt; funct = refl }) s
 
-  module _ {c d e g : Bool} (z : f .op ≡ 0) (pg : g ≡ isBase (f .rd)) (pc : c ≡ isIn 0x50000 (f .funct)) (pd : d ≡ isIn 0xf000000 (f .funct))
-      (pe : e ≡ isIn 0x005f000000001000 (f .funct)) where
-    pub other-plain : ((c && (eqb (f .rs) 0 && (eqb (f .rt) 0 && eqb (f .shift) 0))) || ((d && (eqb (f .rd) 0 && eqb (f .shift) 0)) || e)) && not g ≡ true
+  module _ {a b c g : Bool} (z : f .op ≡ 0) (pg : g ≡ isBase (f .rd)) (sa sb sc : ℕ) (pa : a ≡ isIn sa (f .funct)) (pb : b ≡ isIn sb (f .funct))
+      (pc : c ≡ isIn sc (f .funct)) (ha : T (leads sa 1 (plainBy true (special blank blank any blank))))
+      (hb : T (leads sb 1 (plainBy true (special any any blank blank)))) (hc : T (leads sc 1 (plainBy true (special any any any any)))) where
+    pub other-plain : ((a && (eqb (f .rs) 0 && (eqb (f .rt) 0 && eqb (f .shift) 0))) || ((b && (eqb (f .rd) 0 && eqb (f .shift) 0)) || c)) && not g ≡ true
         → Plain f
-    unfolding isIn
     other-plain h =
         let x = each _ (not g) h in
-        ⊎-elim moves (λ y. ⊎-elim multiply full (either _ e y)) (either _ _ (x .0)) (sym pg ∙ false-not g (x .1))
+        ⊎-elim moves (λ y. ⊎-elim multiply full (either _ c y)) (either _ _ (x .0)) (sym pg ∙ false-not g (x .1))
       where
-        moves : c && (eqb (f .rs) 0 && (eqb (f .rt) 0 && eqb (f .shift) 0)) ≡ true → isBase (f .rd) ≡ false → Plain f
+        moves : a && (eqb (f .rs) 0 && (eqb (f .rt) 0 && eqb (f .shift) 0)) ≡ true → isBase (f .rd) ≡ false → Plain f
         moves y s =
-            let q = each c _ y in
+            let q = each a _ y in
             let r = each (eqb (f .rs) 0) _ (q .1) in
             let t = each (eqb (f .rt) 0) _ (r .1) in
-            plain-in true (special blank blank any blank) 1 0x50000 tt f (f .funct) (fit .funct) (sym pc ∙ q .0)
+            plain-in true (special blank blank any blank) 1 sa ha f (f .funct) (fit .funct) (sym pa ∙ q .0)
             (record { op = z; rs = eqb-true _ _ (r .0); rt = eqb-true _ _ (t .0); rd = tt; shift = eqb-true _ _ (t .1); funct = refl }) s
 
-        multiply : d && (eqb (f .rd) 0 && eqb (f .shift) 0) ≡ true → isBase (f .rd) ≡ false → Plain f
+        multiply : b && (eqb (f .rd) 0 && eqb (f .shift) 0) ≡ true → isBase (f .rd) ≡ false → Plain f
         multiply y s =
-            let q = each d _ y in
+            let q = each b _ y in
             let r = each (eqb (f .rd) 0) _ (q .1) in
-            plain-in true (special any any blank blank) 1 0xf000000 tt f (f .funct) (fit .funct) (sym pd ∙ q .0)
+            plain-in true (special any any blank blank) 1 sb hb f (f .funct) (fit .funct) (sym pb ∙ q .0)
             (record { op = z; rs = tt; rt = tt; rd = eqb-true _ _ (r .0); shift = eqb-true _ _ (r .1); funct = refl }) s
 
-        full : e ≡ true → isBase (f .rd) ≡ false → Plain f
+        full : c ≡ true → isBase (f .rd) ≡ false → Plain f
         full y s =
-            plain-in true (special any any any any) 1 0x005f000000001000 tt f (f .funct) (fit .funct) (sym pe ∙ y)
+            plain-in true (special any any any any) 1 sc hc f (f .funct) (fit .funct) (sym pc ∙ y)
             (record { op = z; rs = tt; rt = tt; rd = tt; shift = tt; funct = refl }) s
 
-  module _ {a g : Bool} (pa : a ≡ isIn 0x7f00 (f .op)) (pg : g ≡ isBase (f .rt)) where
+  module _ {a g : Bool} (pg : g ≡ isBase (f .rt)) (sa : ℕ) (pa : a ≡ isIn sa (f .op)) (ha : T (leads sa 0 (plainBy false (opcode any)))) where
     pub opcode-plain : (a || eqb (f .op) 15 && eqb (f .rs) 0) && not g ≡ true → Plain f
-    unfolding isIn
     opcode-plain h =
         let x = each _ (not g) h in
         ⊎-elim constant upper (either a _ (x .0)) (sym pg ∙ false-not g (x .1))
       where
         constant : a ≡ true → isBase (f .rt) ≡ false → Plain f
         constant y s =
-            plain-in false (opcode any) 0 0x7f00 tt f (f .op) (fit .op) (sym pa ∙ y)
+            plain-in false (opcode any) 0 sa ha f (f .op) (fit .op) (sym pa ∙ y)
             (record { op = refl; rs = tt; rt = tt; rd = tt; shift = tt; funct = tt }) s
 
         upper : eqb (f .op) 15 && eqb (f .rs) 0 ≡ true → isBase (f .rt) ≡ false → Plain f

@@ -1,6 +1,6 @@
 -- Sets of codes: one computed test over all numbers below 64 says what kinds a set's codes lead to.
 use Prim.Native.Nat.{ℕ, zero, suc, _+_, _*_, _<_}
-use mathlib.Core.Path.{_≡_, refl, sym, subst}
+use mathlib.Core.Path.{_≡_, refl, subst}
 use mathlib.Core.Bool.{Bool, true, false, cond, not, _&&_, _||_}
 use mathlib.Core.List.{List, [], _∷_}
 use native.Mathlib.Omega.{arith}
@@ -9,7 +9,7 @@ use lib.Dec.{T, eqb, ltb, ltb→lt}
 use borrow.Author.Tests.{eqb-true}
 use Rattle.isa.specs.declared.kind.Kind.{Kind}
 use Rattle.isa.specs.Table.{rowOf, instructions}
-use Rattle.isa.proofs.Codes.{tableOf, keyOf, Found, found, nothing, lookup, both}
+use Rattle.isa.proofs.Codes.{keyOf, Found, found, nothing, lookup, both}
 use Rattle.quick.specs.Set.{isIn}
 
 abbrev pub upTo : ℕ → (ℕ → Bool) → Bool

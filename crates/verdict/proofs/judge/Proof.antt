@@ -1,6 +1,5 @@
 use Rattle.verdict.specs.Program.{verdictOf}
 use borrow.Author.Tests.{ne-eqb}
-use mathlib.Core.Path.{_∙_}
 use borrow.Author.Needs.{needs}
 use Rattle.verdict.proofs.judge.Statement.{statement}
 use Rattle.verdict.proofs.judge.Tie as tie

@@ -1,6 +1,4 @@
 use Rattle.checker.proofs.Scan.{layout-refused, part-inside, part-is}
-use Rattle.checker.specs.Check.{codeOf}
-use native.Mathlib.Omega.{arith}
 use mathlib.Core.Path.{_∙_}
 use borrow.Author.Needs.{needs}
 use Rattle.checker.proofs.check.check_placed.Statement.{statement}

@@ -1,5 +1,4 @@
 use Rattle.checker.specs.Rules.{wordRefusal}
-use borrow.Author.Tests.{not-true, not-false}
 use borrow.Author.Needs.{needs}
 use Rattle.checker.proofs.words.word_refusal.Statement.{statement}
 use Rattle.checker.proofs.words.word_refusal.Tie as tie

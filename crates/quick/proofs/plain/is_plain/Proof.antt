@@ -1,5 +1,6 @@
 use Rattle.quick.proofs.Plains.{opcode-plain, word-plain}
 use borrow.Author.Needs.{needs}
+use Rattle.quick.specs.Set.{isIn}
 use Rattle.quick.proofs.plain.is_plain.Statement.{statement}
 use Rattle.quick.proofs.plain.is_plain.Tie as tie
 
@@ -7,7 +8,8 @@ returns : tie.Need-returns
 returns c = λ h. word-plain _ (c .before .before .before .cut .ensures .0) (c .is-plain-special .ensures h)
 
 returns-2 : tie.Need-returns-2
-returns-2 c = λ h. word-plain _ (c .before .before .before .before .before .before .cut .ensures .0) (opcode-plain _ (c .before .before .before .before .before .before .cut .ensures .1) (c .before .before .before .has .ensures) (c .is-base .ensures) h)
+unfolding isIn
+returns-2 c = λ h. word-plain _ (c .before .before .before .before .before .before .cut .ensures .0) (opcode-plain _ (c .before .before .before .before .before .before .cut .ensures .1) (c .is-base .ensures) _ (c .before .before .before .has .ensures) tt h)
 
 pub is-plain-spec : {M : Type 1} → statement M
 is-plain-spec =
