@@ -1,14 +1,10 @@
 /* A checker of modules as one would write it in C for speed: one pass over the words. Of most words only the zero bits and the register
    that is written have to be looked at, and a table says where they are: a switch that every word went through took twice the time, as a
    processor cannot guess its next arm. The rules that the others can break are tried in their order. */
+#include "fields.h"
 #include "plain.h"
 
 #define INLINE static inline __attribute__((always_inline))
-
-#define RS (w >> 21 & 31)
-#define RT (w >> 16 & 31)
-#define RD (w >> 11 & 31)
-#define VALUE (w & 0xFFFF)
 
 #define SMALLEST_CODE 16u
 #define SMALLEST_DATA 4u
@@ -20,17 +16,6 @@
 #define CODE 27u
 
 #define LINK 31u
-
-/* Bits drawn as zero, by the fields that are missing or by the only ones that are there. */
-#define NO_SHIFT 0x7C0
-#define NO_RS 0x3E00000
-#define NO_RT 0x1F0000
-#define RS_RT_ONLY 0xFFC0
-#define RS_ONLY 0x1FFFC0
-#define RD_ONLY 0x3FF07C0
-#define RS_RD_ONLY 0x1F07C0
-#define STYPE_ONLY 0x3FFF800
-#define RT_RD_ONLY 0x7FF
 
 /* What is left to try once a word's zero bits and the register that it writes are right. Those from BRANCH on are branches and jumps. */
 enum form { NONE, ORDINARY, BREAK, CONTROL, BYTE, HALF, WORD, BRANCH, LINKING_BRANCH, JUMP, JUMP_REGISTER, LINKING_REGISTER };

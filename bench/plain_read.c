@@ -1,13 +1,9 @@
 /* A reader of instruction words as one would write it in C: a switch on the opcode, the function, rt and rs, and for each format a test of
    the bits that must be zero. Kinds are numbered as in docs/INSTRUCTIONS.md. */
+#include "fields.h"
 #include "plain.h"
 
 typedef struct cc100_instruction instruction;
-
-#define RS (w >> 21 & 31)
-#define RT (w >> 16 & 31)
-#define RD (w >> 11 & 31)
-#define SHIFT (w >> 6 & 31)
 
 static const instruction none = {0, 0, 0, 0, 0, 0};
 

@@ -2,6 +2,7 @@
    test of the bits that must be zero. An arm tests for its exit before it writes anything. */
 #include <string.h>
 
+#include "fields.h"
 #include "plain.h"
 
 /* plain_step and plain_run each get their own copy of the interpreter, so that it works on the program counters where they are. */
@@ -17,12 +18,7 @@ enum {
 #define STATUS_BITS 0x1FFFu
 #define USER 8u
 
-#define RS (w >> 21 & 31)
-#define RT (w >> 16 & 31)
-#define RD (w >> 11 & 31)
-#define SHIFT (w >> 6 & 31)
 #define CODE (w >> 6 & 0xFFFFF)
-#define VALUE (w & 0xFFFF)
 #define EXTENDED ((uint32_t)(int16_t)(w & 0xFFFF))
 #define A (s->r[RS])
 #define B (s->r[RT])
@@ -32,16 +28,6 @@ enum {
 #define ZERO(bits) \
     if (w & (bits)) \
         return NO_INSTRUCTION
-/* Bits drawn as zero, by the fields that are missing or by the only ones that are there. */
-#define NO_SHIFT 0x7C0
-#define NO_RS 0x3E00000
-#define NO_RT 0x1F0000
-#define RS_RT_ONLY 0xFFC0
-#define RS_ONLY 0x1FFFC0
-#define RD_ONLY 0x3FF07C0
-#define RS_RD_ONLY 0x1F07C0
-#define STYPE_ONLY 0x3FFF800
-#define RT_RD_ONLY 0x7FF
 
 INLINE int32_t number(uint32_t x) { return (int32_t)x; }
 

@@ -9,7 +9,8 @@ use Rattle.layout.specs.Layout.{isCodeSize, isDataSize, isPlaced, isApart}
 use Rattle.branch.specs.Branch.{slotOf, relativeOf, regionOf}
 use Rattle.view.specs.View.{seen, wordView}
 use Rattle.view.specs.Guard.{isMaskOf, maskIn, isMergeOf}
-use Rattle.checker.specs.Rules.{viewAt, viewBefore, broken10, broken11, isGuarded, offsetOf, fitsData, fitsCode, broken12, broken13, broken14, targetOf, isEntry, lands, broken15}
+use Rattle.checker.specs.Offset.{offsetOf}
+use Rattle.checker.specs.Rules.{viewAt, viewBefore, broken10, broken11, isGuarded, fitsData, fitsCode, broken12, broken13, broken14, targetOf, isEntry, lands, broken15}
 use Rattle.checker.specs.Check.{isWordBroken, isFileBroken, accepted, checkOf}
 use Rattle.checker.specs.Lawful.{Lawful}
 use Rattle.checker.specs.Examples.{Example, lengthM, layoutM, moduleM, examples, saidOf}

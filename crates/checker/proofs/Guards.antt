@@ -10,7 +10,8 @@ use Rattle.word.proofs.Numbers.{signed-low, signed-high}
 use Rattle.view.specs.declared.View.{View}
 use Rattle.view.specs.Guard.{isMaskOf, maskIn}
 use Rattle.quick.proofs.Guards.{mask-value}
-use Rattle.checker.specs.Rules.{wordAt, isGuarded, offsetOf, fitsData, fitsCode, broken12, broken13}
+use Rattle.checker.specs.Offset.{offsetOf}
+use Rattle.checker.specs.Rules.{wordAt, isGuarded, fitsData, fitsCode, broken12, broken13}
 use Rattle.checker.specs.Lawful.{Not}
 
 module _ (size m v w : ℕ) where

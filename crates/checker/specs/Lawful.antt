@@ -20,7 +20,7 @@ use Rattle.isa.specs.Class.{classOf, registerWritten}
 use Rattle.isa.specs.Reading.{readOf}
 use Rattle.layout.specs.declared.Layout.{Layout}
 use Rattle.branch.specs.Branch.{relativeOf, regionOf}
-use Rattle.checker.specs.Rules.{offsetOf}
+use Rattle.checker.specs.Offset.{offsetOf}
 
 abbrev pub Not : Type 0 → Type 0
 Not P = P → ⊥

@@ -1,3 +1,4 @@
+pub mod Offset
 pub mod Rules
 pub mod Check
 pub mod Lawful

@@ -1,5 +1,5 @@
 -- The rules of words as tests, 8 to 15 (document 01, Module and its guards; Refusal table). img is the image, i a word's index.
-use Prim.Native.Nat.{ℕ, _+_, _-_, _*_, _/_, _%_, _^_, _≤_}
+use Prim.Native.Nat.{ℕ, _+_, _-_, _*_, _/_, _%_, _≤_}
 use mathlib.Core.Bool.{Bool, false, cond, not, _&&_, _||_}
 use mathlib.Core.Path.{_≡_}
 use mathlib.Core.List.{List}
@@ -7,13 +7,13 @@ use lib.Dec.{eqb, leb, ltb}
 use lib.IntN.{ℤ, pos, negsuc}
 use lib.ListN.{length}
 use Rattle.word.specs.Bytes.{loadOf, longest}
-use Rattle.word.specs.Number.{signedOf}
 use Rattle.branch.specs.Branch.{relativeOf, regionOf}
 use Rattle.layout.specs.declared.Layout.{Layout}
 use Rattle.view.specs.declared.View.{View}
 use Rattle.view.specs.View.{nothing, wordView, isBranch, needsGuard, isBase}
 use Rattle.view.specs.Guard.{isMaskOf, maskIn, isMergeOf}
 use Rattle.checker.specs.declared.words.Tried.{Tried}
+use Rattle.checker.specs.Offset.{offsetOf}
 
 -- what the rules of layout and image, 1 to 7, leave to those of words
 pub record Sized (l : Layout) (img : List ℕ) : Type 0 where
@@ -61,10 +61,6 @@ maskAt img i = maskIn (wordAt img (i - 2))
 -- both words stand in the bundle of word i
 abbrev pub inBundle : ℕ → Bool
 inBundle i = leb 2 (i % 4)
-
--- the signed offset of an access
-unfoldable pub offsetOf : ℕ → ℤ
-offsetOf v = signedOf 16 (v % 2 ^ 16)
 
 -- mask m and offset are multiples of the width w, the offset isn't negative, and m + offset + w is at most the data size
 unfoldable pub fitsData : ℕ → ℕ → ℤ → ℕ → Bool

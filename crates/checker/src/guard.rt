@@ -2,6 +2,7 @@
 ghost use mathlib.Core.Path.{_≡_};
 ghost use Prim.Native.Nat.{_+_, _*_, _<_, _≤_};
 ghost use lib.ListN.{length};
+ghost use Rattle.checker.specs.Offset.{offsetOf};
 ghost use Rattle.checker.specs.Rules as Spec;
 use crate::image;
 use view::View;
@@ -17,7 +18,7 @@ fn is_guarded(a: u32, b: u32, base: u32, r: u32) -> bool
 
 fn fits_data(size: u32, mask: u32, offset: u32, width: u32) -> bool
     requires { ⌜ 0 < width ⌝ }
-    ensures { λ r. ⌜ r ≡ Spec.fitsData size mask (Spec.offsetOf offset) width ⌝ }
+    ensures { λ r. ⌜ r ≡ Spec.fitsData size mask (offsetOf offset) width ⌝ }
 {
     let o = offset % 65536;
     if 32768 <= o {
