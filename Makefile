@@ -18,7 +18,7 @@ PLAIN = bench/plain_read.c bench/plain_step.c bench/plain_check.c
 
 sample:
 	@mkdir -p target
-	@echo "proving and building (about three minutes the first time) ..."
+	@echo "proving and building (about two minutes the first time) ..."
 	@rt check verdict listing > target/sample.log 2>&1 || { cat target/sample.log; exit 1; }
 	@target/bin/verdict < samples/m.module
 
