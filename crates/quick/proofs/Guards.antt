@@ -34,18 +34,18 @@ use Rattle.quick.proofs.Plains.{each}
 
 -- ---- a test of the kind that is read
 
-abbrev kindIs : (Kind → Bool) → Reading → Bool
+abbrev pub kindIs : (Kind → Bool) → Reading → Bool
 kindIs t (Legal i) = t (i .kind)
 kindIs t NoInstruction = false
 
 module _ (f : Fields) where
   -- the test holds where fields that pass it by their kind are read
-  told-true : (t : Kind → Bool) (k : Kind) → T (fitsKind k f) → t k ≡ true → kindIs t (readFields f) ≡ true
+  pub told-true : (t : Kind → Bool) (k : Kind) → T (fitsKind k f) → t k ≡ true → kindIs t (readFields f) ≡ true
   unfolding decodeOf
   told-true t k h e = rw (read-fits f k h) e
 
   -- it fails where no kind that fits passes it
-  told-false : (t : Kind → Bool) → ((k : Kind) → T (fitsKind k f) → t k ≡ true → ⊥) → kindIs t (readFields f) ≡ false
+  pub told-false : (t : Kind → Bool) → ((k : Kind) → T (fitsKind k f) → t k ≡ true → ⊥) → kindIs t (readFields f) ≡ false
   unfolding decodeOf
   told-false t h = go (readFields f) refl
     where
@@ -60,7 +60,7 @@ module _ (f : Fields) where
       go NoInstruction e = refl
 
   -- the test of one kind
-  told-kind : (j : Kind) → kindIs (is j) (readFields f) ≡ fitsKind j f
+  pub told-kind : (j : Kind) → kindIs (is j) (readFields f) ≡ fitsKind j f
   told-kind j = go (fitsKind j f) refl
     where
       go : (b : Bool) → fitsKind j f ≡ b → kindIs (is j) (readFields f) ≡ b
