@@ -14,7 +14,7 @@ use Rattle.layout.proofs.Kept.{kept}
 use Rattle.view.specs.declared.View.{View}
 use Rattle.view.specs.View.{nothing, wordView, isBranch, isJump, isBase}
 use Rattle.quick.specs.Plain.{PlainWord}
-use Rattle.quick.proofs.Plains.{each}
+use Rattle.word.proofs.Choice.{both}
 use Rattle.checker.specs.declared.verdict.Verdict.{Verdict}
 use Rattle.checker.specs.declared.words.Tried.{Tried}
 use Rattle.checker.specs.Rules.{Sized, wordAt, viewAt, viewBefore, broken10, broken11, broken12, broken13, broken14, broken15, wordRefusal, triedOf}
@@ -80,11 +80,11 @@ module _ (l : Layout) (img : List ℕ) (i : ℕ) (after : Bool) where
   unfolding wordRefusal broken10 broken11 broken12 broken13 broken14 broken15 viewAt
   plain-tried w e h =
       let v = wordView w in
-      let a = each (v .legal) _ h in
-      let b = each (not (v .barred)) _ (a .1) in
-      let c = each (not (isBase (v .written))) _ (b .1) in
-      let d = each (not (v .link)) _ (c .1) in
-      let f = each (eqb (v .width) 0) _ (d .1) in
+      let a = both (v .legal) _ h in
+      let b = both (not (v .barred)) _ (a .1) in
+      let c = both (not (isBase (v .written))) _ (b .1) in
+      let d = both (not (v .link)) _ (c .1) in
+      let f = both (eqb (v .width) 0) _ (d .1) in
       let g = neither (v .relative) _ (not-true (isBranch v) (f .1)) in
       let j = neither (v .region) _ (g .1) in
       rw (← e, a .0, not-true (v .barred) (b .0), not-true (isBase (v .written)) (c .0), not-true (v .link) (d .0), f .0, g .0, j .0, j .1)

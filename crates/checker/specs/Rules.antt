@@ -106,7 +106,8 @@ lands l img t =
 unfoldable pub broken15 : Layout → List ℕ → ℕ → View → Bool
 broken15 l img i v = (v .relative || v .region) && not (lands l img (targetOf v (l .«code_base» + 4 * i)))
 
--- ---- one word: the first of 8 to 15 that it breaks, 0 where none is, and whether it is a branch or jump
+-- ---- what the code asks of one word: the first of 8 to 15 that it breaks, 0 where none is, and whether it is a branch or jump.
+-- The verdict (`checkOf`) does not rest on this; `words-more` of proofs/Scan ties the two together.
 
 unfoldable pub wordRefusal : Layout → List ℕ → ℕ → Bool → View → ℕ
 wordRefusal l img i after v =

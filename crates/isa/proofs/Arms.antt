@@ -60,7 +60,8 @@ lookup-none test x away (k ∷ ks) t =
 abbrev pub listed : ℕ → List ℕ → Kind → Bool
 listed t l k = ltb (rowOf k .code) 64 && (not (eqb (tableOf (rowOf k .format)) t) || member (rowOf k .code) l)
 
-split-or : (a b : Bool) → T (not a || b) → T a → T b
+-- what the first of two implies
+pub split-or : (a b : Bool) → T (not a || b) → T a → T b
 split-or true b t s = t
 split-or false b t s = absurd s
 

@@ -7,6 +7,7 @@ use lib.Dec.{T, eqb, eqb→eq}
 use borrow.Author.Tests.{eq-eqb, eqb-true}
 use Rattle.word.specs.declared.field.Fields.{Fields}
 use Rattle.word.specs.Field.{cutOf, Fit}
+use Rattle.word.proofs.Choice as Choice
 use Rattle.isa.specs.declared.kind.Alu.the-variants.{Or}
 use Rattle.isa.specs.declared.kind.Immediate.the-variants.{Andi}
 use Rattle.isa.specs.declared.kind.Branch.the-variants.{J, Jal, Jr, Jalr}
@@ -24,13 +25,13 @@ use Rattle.isa.proofs.Codes.{keyOf, every, every-kind, both}
 use Rattle.isa.proofs.Same.{is, same-kind, same-test}
 use Rattle.isa.proofs.Roles.{is-true}
 use Rattle.isa.proofs.Drawings.{matched}
-use Rattle.isa.proofs.ByKey.{came, read-fits}
+use Rattle.isa.proofs.ByKey.{not-so, came, read-fits}
+use Rattle.isa.proofs.Arms.{split-or}
 use Rattle.view.specs.View.{isRegion, isRegister, seen, viewOf, wordView, isJump, needsGuard}
 use Rattle.view.specs.Guard.{isMask, isMerge, masks, merges, isMaskOf, maskIn, isMergeOf}
 use Rattle.quick.specs.Set.{isIn}
 use Rattle.quick.proofs.Patterns.{any, settlesAll, pattern-fits, opcode}
 use Rattle.quick.proofs.Sets.{leads, led}
-use Rattle.quick.proofs.Plains.{each}
 
 -- ---- a test of the kind that is read
 
@@ -52,11 +53,7 @@ module _ (f : Fields) where
       go : (r : Reading) → readFields f ≡ r → kindIs t r ≡ false
       go (Legal i) e =
           let c = came f i e in
-          by-test (t (i .kind)) (λ q. h (c .kind) (c .fit) (ap t (ap (λ (x : Instruction). x .kind) (c .same)) ∙ q))
-        where
-          by-test : (b : Bool) → (b ≡ true → ⊥) → b ≡ false
-          by-test true n = absurd (n refl)
-          by-test false n = refl
+          not-so (t (i .kind)) (λ q. h (c .kind) (c .fit) (ap t (ap (λ (x : Instruction). x .kind) (c .same)) ∙ is-true (t (i .kind)) q))
       go NoInstruction e = refl
 
   -- the test of one kind
@@ -97,10 +94,6 @@ is-code (Fixed m) n x t h = absurd t
 is-code Code n x t h = eqb→eq x n h
 is-code Part n x t h = absurd t
 
-implied : (a b : Bool) → T (not a || b) → a ≡ true → T b
-implied true b h e = h
-implied false b h e = absurd (false≢true e)
-
 -- the opcode of an access is in the set
 abbrev holdsAccess : ℕ → Kind → Bool
 holdsAccess set k = not (accesses k) || (isCode (drawingFor k .op) && isIn set (rowOf k .code))
@@ -123,7 +116,7 @@ module _ (f : Fields) (fit : Fit f) where
         where
           away : (k : Kind) → T (fitsKind k f) → accesses k ≡ true → ⊥
           away k h p =
-              let t = both (isCode (drawingFor k .op)) _ (implied (accesses k) _ (every-kind (holdsAccess set) inside k) p) in
+              let t = both (isCode (drawingFor k .op)) _ (split-or (accesses k) _ (every-kind (holdsAccess set) inside k) (subst T (sym p) tt)) in
               let c : f .op ≡ rowOf k .code = is-code (drawingFor k .op) (rowOf k .code) (f .op) (t .0) (matched (drawingFor k) (rowOf k .code) f h .op) in
               false≢true (sym e ∙ (rw c (is-true (isIn set (rowOf k .code)) (t .1))))
 
@@ -249,6 +242,6 @@ pub mask-value : (w r : ℕ) → isMaskOf r w ≡ true → maskIn w ≡ w % 2 ^ 
 unfolding maskIn readOf decodeOf
 mask-value w r h =
     let f = cutOf w in
-    let op = each (eqb (f .op) 12) _ (mask-told w refl r ∙ h) .0 in
+    let op = Choice.both (eqb (f .op) 12) _ (mask-told w refl r ∙ h) .0 in
     rw (read-fits f (K.Immediate Andi) (pattern-fits (opcode any) (drawingFor (K.Immediate Andi)) 12 f tt
     (record { op = eqb-true _ _ op; rs = tt; rt = tt; rd = tt; shift = tt; funct = tt }))) (omega arith)

@@ -1,12 +1,13 @@
 -- Words that the code tells to be plain are plain.
 use Prim.Native.Nat.{ℕ, _<_}
 use mathlib.Core.Path.{_≡_, refl, ap, sym, _∙_}
-use mathlib.Core.Bool.{Bool, true, false, not, _&&_, _||_, false≢true}
+use mathlib.Core.Bool.{Bool, true, false, not, _&&_, _||_}
 use mathlib.Core.Logic.{_⊎_, inl, inr, ⊎-elim}
 use lib.Dec.{T, eqb}
-use borrow.Author.Tests.{eqb-true}
+use borrow.Author.Tests.{eqb-true, not-true}
 use Rattle.word.specs.declared.field.Fields.{Fields}
 use Rattle.word.specs.Field.{cutOf, Fit}
+use Rattle.word.proofs.Choice as Choice
 use Rattle.isa.specs.declared.kind.Immediate.the-variants.{Lui}
 use Rattle.isa.specs.declared.kind.System.the-variants.{Syscall, Break, Rfe, Mfc0, Mtc0, Sync}
 use Rattle.isa.specs.declared.kind.Kind.{Kind}
@@ -87,10 +88,6 @@ plainKind b k =
     && (eqb (classOf k .width) 0
     && not (isRelative (classOf k .flow) || (isRegion (classOf k .flow) || isRegister (classOf k .flow))))))
 
-not-so : (b : Bool) → T (not b) → b ≡ false
-not-so true t = absurd t
-not-so false t = refl
-
 module _ (b : Bool) (k : Kind) (f : Fields) where
   abbrev decoded : Instruction
   decoded = decodeOf k (drawingFor k) f
@@ -110,7 +107,7 @@ module _ (b : Bool) (k : Kind) (f : Fields) where
       let d = both (not (isBarred k 15)) _ (c .1) in
       let e = both (not (classOf k .link)) _ (d .1) in
       let g = both (eqb (classOf k .width) 0) _ (e .1) in
-      and-true (ap not (barred-never k (decoded .value) (not-so (isBarred k 15) (d .0))))
+      and-true (ap not (barred-never k (decoded .value) (not-true (isBarred k 15) (is-true (not (isBarred k 15)) (d .0)))))
       (and-true (ap not (written-spared b (classOf k .destination) decoded (c .0) (decoded-spared h)))
       (and-true (is-true (not (classOf k .link)) (e .0))
       (and-true (is-true (eqb (classOf k .width) 0) (g .0)) (is-true _ (g .1)))))
@@ -137,30 +134,22 @@ either : (a b : Bool) → a || b ≡ true → (a ≡ true) ⊎ (b ≡ true)
 either true b h = inl refl
 either false b h = inr h
 
-pub each : (a b : Bool) → a && b ≡ true → (a ≡ true) × (b ≡ true)
-each true b h = (refl, h)
-each false b h = absurd (false≢true h)
-
-false-not : (b : Bool) → not b ≡ true → b ≡ false
-false-not true h = absurd (false≢true h)
-false-not false h = refl
-
 module _ (f : Fields) (fit : Fit f) where
   -- a set's codes are tried along the whole set: h
   module _ {a b g : Bool} (z : f .op ≡ 0) (pg : g ≡ isBase (f .rd)) (sa sb : ℕ) (pa : a ≡ isIn sa (f .funct)) (pb : b ≡ isIn sb (f .funct))
       (ha : T (leads sa 1 (plainBy true (special any any any blank)))) (hb : T (leads sb 1 (plainBy true (special blank any any any)))) where
     pub frequent-plain : (a && eqb (f .shift) 0) || (b && eqb (f .rs) 0) ≡ true → not g ≡ true → Plain f
-    frequent-plain h k = ⊎-elim three shifts (either _ _ h) (sym pg ∙ false-not g k)
+    frequent-plain h k = ⊎-elim three shifts (either _ _ h) (sym pg ∙ not-true g k)
       where
         three : a && eqb (f .shift) 0 ≡ true → isBase (f .rd) ≡ false → Plain f
         three y s =
-            let q = each a _ y in
+            let q = Choice.both a _ y in
             plain-in true (special any any any blank) 1 sa ha f (f .funct) (fit .funct) (sym pa ∙ q .0)
             (record { op = z; rs = tt; rt = tt; rd = tt; shift = eqb-true _ _ (q .1); funct = refl }) s
 
         shifts : b && eqb (f .rs) 0 ≡ true → isBase (f .rd) ≡ false → Plain f
         shifts y s =
-            let q = each b _ y in
+            let q = Choice.both b _ y in
             plain-in true (special blank any any any) 1 sb hb f (f .funct) (fit .funct) (sym pb ∙ q .0)
             (record { op = z; rs = eqb-true _ _ (q .1); rt = tt; rd = tt; shift = tt; funct = refl }) s
 
@@ -170,21 +159,21 @@ module _ (f : Fields) (fit : Fit f) where
     pub other-plain : ((a && (eqb (f .rs) 0 && (eqb (f .rt) 0 && eqb (f .shift) 0))) || ((b && (eqb (f .rd) 0 && eqb (f .shift) 0)) || c)) && not g ≡ true
         → Plain f
     other-plain h =
-        let x = each _ (not g) h in
-        ⊎-elim moves (λ y. ⊎-elim multiply full (either _ c y)) (either _ _ (x .0)) (sym pg ∙ false-not g (x .1))
+        let x = Choice.both _ (not g) h in
+        ⊎-elim moves (λ y. ⊎-elim multiply full (either _ c y)) (either _ _ (x .0)) (sym pg ∙ not-true g (x .1))
       where
         moves : a && (eqb (f .rs) 0 && (eqb (f .rt) 0 && eqb (f .shift) 0)) ≡ true → isBase (f .rd) ≡ false → Plain f
         moves y s =
-            let q = each a _ y in
-            let r = each (eqb (f .rs) 0) _ (q .1) in
-            let t = each (eqb (f .rt) 0) _ (r .1) in
+            let q = Choice.both a _ y in
+            let r = Choice.both (eqb (f .rs) 0) _ (q .1) in
+            let t = Choice.both (eqb (f .rt) 0) _ (r .1) in
             plain-in true (special blank blank any blank) 1 sa ha f (f .funct) (fit .funct) (sym pa ∙ q .0)
             (record { op = z; rs = eqb-true _ _ (r .0); rt = eqb-true _ _ (t .0); rd = tt; shift = eqb-true _ _ (t .1); funct = refl }) s
 
         multiply : b && (eqb (f .rd) 0 && eqb (f .shift) 0) ≡ true → isBase (f .rd) ≡ false → Plain f
         multiply y s =
-            let q = each b _ y in
-            let r = each (eqb (f .rd) 0) _ (q .1) in
+            let q = Choice.both b _ y in
+            let r = Choice.both (eqb (f .rd) 0) _ (q .1) in
             plain-in true (special any any blank blank) 1 sb hb f (f .funct) (fit .funct) (sym pb ∙ q .0)
             (record { op = z; rs = tt; rt = tt; rd = eqb-true _ _ (r .0); shift = eqb-true _ _ (r .1); funct = refl }) s
 
@@ -196,8 +185,8 @@ module _ (f : Fields) (fit : Fit f) where
   module _ {a g : Bool} (pg : g ≡ isBase (f .rt)) (sa : ℕ) (pa : a ≡ isIn sa (f .op)) (ha : T (leads sa 0 (plainBy false (opcode any)))) where
     pub opcode-plain : (a || eqb (f .op) 15 && eqb (f .rs) 0) && not g ≡ true → Plain f
     opcode-plain h =
-        let x = each _ (not g) h in
-        ⊎-elim constant upper (either a _ (x .0)) (sym pg ∙ false-not g (x .1))
+        let x = Choice.both _ (not g) h in
+        ⊎-elim constant upper (either a _ (x .0)) (sym pg ∙ not-true g (x .1))
       where
         constant : a ≡ true → isBase (f .rt) ≡ false → Plain f
         constant y s =
@@ -206,7 +195,7 @@ module _ (f : Fields) (fit : Fit f) where
 
         upper : eqb (f .op) 15 && eqb (f .rs) 0 ≡ true → isBase (f .rt) ≡ false → Plain f
         upper y s =
-            let q = each (eqb (f .op) 15) _ y in
+            let q = Choice.both (eqb (f .op) 15) _ y in
             plain-fits false (K.Immediate Lui) f (opcode blank) tt tt
             (record { op = eqb-true _ _ (q .0); rs = eqb-true _ _ (q .1); rt = tt; rd = tt; shift = tt; funct = tt }) s
 

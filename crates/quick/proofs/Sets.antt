@@ -1,6 +1,6 @@
 -- Sets of codes: one computed test over all numbers below 64 says what kinds a set's codes lead to.
 use Prim.Native.Nat.{ℕ, zero, suc, _+_, _*_, _<_}
-use mathlib.Core.Path.{_≡_, refl, subst}
+use mathlib.Core.Path.{_≡_, refl, sym, subst}
 use mathlib.Core.Bool.{Bool, true, false, cond, not, _&&_, _||_}
 use mathlib.Core.List.{List, [], _∷_}
 use native.Mathlib.Omega.{arith}
@@ -10,6 +10,7 @@ use borrow.Author.Tests.{eqb-true}
 use Rattle.isa.specs.declared.kind.Kind.{Kind}
 use Rattle.isa.specs.Table.{rowOf, instructions}
 use Rattle.isa.proofs.Codes.{keyOf, Found, found, nothing, lookup, both}
+use Rattle.isa.proofs.Arms.{split-or}
 use Rattle.quick.specs.Set.{isIn}
 
 abbrev pub upTo : ℕ → (ℕ → Bool) → Bool
@@ -46,15 +47,11 @@ pub record Led (m n : ℕ) (t : Kind → Bool) : Type 0 where
   pub key : keyOf kind ≡ m * 64 + n
   pub passed : T (t kind)
 
-implied : (a b : Bool) → T (not a || b) → a ≡ true → T b
-implied true b h e = h
-implied false b h e = absurd (let z : _≡_ {A = ℕ} 0 1 = cc in omega arith)
-
 module _ (set m : ℕ) (t : Kind → Bool) (h : T (leads set m t)) where
   pub led : (n : ℕ) → n < 64 → isIn set n ≡ true → Led m n t
   led n p e =
       go (lookup instructions (m * 64 + n)) refl
-      (implied (isIn set n) _ (below 64 (λ i. not (isIn set i) || passes t (lookup instructions (m * 64 + i))) h n p) e)
+      (split-or (isIn set n) _ (below 64 (λ i. not (isIn set i) || passes t (lookup instructions (m * 64 + i))) h n p) (subst T (sym e) tt))
     where
       go : (x : Found) → lookup instructions (m * 64 + n) ≡ x → T (passes t x) → Led m n t
       go (found k) q s =
