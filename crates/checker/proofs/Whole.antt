@@ -5,6 +5,7 @@ use mathlib.Core.Bool.{Bool, cond}
 use mathlib.Core.List.{List, [], _∷_, _++_}
 use native.Mathlib.Omega.{arith}
 use native.Mathlib.Decide.{decLt}
+use Rattle.word.proofs.Choice.{by-test}
 use Rattle.layout.specs.declared.Layout.{Layout}
 use Rattle.checker.specs.declared.verdict.Verdict.{Verdict}
 use Rattle.checker.specs.Check.{verdict, noPlace, accepted, wordTrials, trialsOf, isBroken, firstOf, checkOf}
@@ -104,9 +105,20 @@ numbered l =
     join Numbered seven (wordTrials (wordsIn l) 0) (omega arith)
     (of-words Numbered (wordsIn l) 0 (λ j p q. omega arith, omega arith))
 
+-- only `accepted` has number 0
+zero-accepted : (b : Verdict → Bool) (ts : List Verdict) → All Numbered ts → firstOf b ts .number ≡ 0 → firstOf b ts ≡ accepted
+zero-accepted b [] n e = refl
+zero-accepted b (t ∷ ts) n e =
+    by-test (λ v. v .number ≡ 0 → v ≡ accepted) (b t) (λ _ z. absurd (n .0 z)) (λ _. zero-accepted b ts (n .1)) e
+
 -- ---- the verdict
 
 module _ (l : Layout) (len : ℕ) (img : List ℕ) where
+  -- a host that finds number 0 has an accepted module
+  pub number-accepted : checkOf l len img .number ≡ 0 → checkOf l len img ≡ accepted
+  unfolding checkOf
+  number-accepted = zero-accepted (isBroken l len img) (trialsOf l) (numbered l)
+
   abbrev Kept : Verdict → Type 0
   Kept = Keeps l len img
 

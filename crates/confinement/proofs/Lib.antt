@@ -1,0 +1,13 @@
+pub mod ByKind
+pub mod Moves
+pub mod Parts
+pub mod Areas
+pub mod Invariant
+pub mod Steps
+pub mod Keeps
+pub mod Hosts
+pub mod Lists
+pub mod Twins
+pub mod Words
+pub mod Exported
+pub mod Whole

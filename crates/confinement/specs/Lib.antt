@@ -1,0 +1,4 @@
+pub mod Events
+pub mod Calls
+pub mod Lists
+pub mod Demand
