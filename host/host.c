@@ -3,7 +3,8 @@
        host MODULE
 
    A module that the checker refuses is not run: this host says the refusal's number and, where it has a place, the word there. One that is
-   accepted, started as below, is to stay in its own code and data and end in no exits but Integer Overflow, System Call, Breakpoint and Trap.
+   accepted, started as below, stays in its own code and data and ends in no exits but Integer Overflow, System Call, Breakpoint and Trap. That
+   is proved of every host that keeps to what cc100.h says of a confined module, as this one does.
 
    The convention between this host and its modules: SYSCALL with code 0 asks for the next figure. The host puts the figure's place in the
    data area, a multiple of 4, into register 8 and the figure into register 9, and resumes the module. When a module asks and no figures

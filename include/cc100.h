@@ -6,7 +6,18 @@
    - a pointer and the length beside it are those of bytes that the caller owns; the pointer is not NULL, also where the length is 0;
    - state and memory do not overlap.
 
-   A call that refuses leaves every byte as it was. */
+   A call that refuses leaves every byte as it was.
+
+   A module is confined, which is proved for every list of cc100_step, cc100_run and cc100_resume in any order, where the host
+
+   - has it accepted by cc100_check or cc100_check_placed, in the layout and with the memory length that it then has, and leaves its code area so;
+   - starts it with PC at the code base, next PC four more, register 26 the data base, register 27 the code base, register 0 zero, and a status
+     with CC100_STATUS_USER set; all else in state and memory may be anything that is not refused;
+   - hands each call the state and memory that the last one left, and changes in them only registers 1 to 25 and 28 to 31, HI, LO and bytes of
+     the data area, and these only where the step of the state ends in an exit.
+
+   Then every fetch is from its code area and every load and store in its data area, no exits are met but CC100_EXIT_INTEGER_OVERFLOW,
+   CC100_EXIT_SYSTEM_CALL, CC100_EXIT_BREAKPOINT and CC100_EXIT_TRAP, and all other memory keeps its bytes and has no influence. */
 #ifndef CC100_H
 #define CC100_H
 
@@ -143,7 +154,8 @@ cc100_ran cc100_run(uint8_t *state, size_t state_length, uint8_t *memory, size_t
 /* Moves a state past the instruction whose step ends in CC100_EXIT_INTEGER_OVERFLOW, _SYSTEM_CALL, _BREAKPOINT or _TRAP.
    Refuses, in this order: CC100_REFUSED_MEMORY, CC100_REFUSED_STATE, CC100_REFUSED_RESUME.
    Answers CC100_DONE, and leaves PC at the former next PC, next PC four more (wrapping at 2^32), the LL word 0 and all else as it was.
-   Memory is only read. */
+   Memory is only read. It looks at the state as it is now: where a host has changed a register so that the instruction no longer exits,
+   the answer is CC100_REFUSED_RESUME, and the next step or run executes it. */
 uint32_t cc100_resume(uint8_t *state, size_t state_length, const uint8_t *memory, size_t memory_length);
 
 /* Reads a word. Any word is taken; one that is no instruction gives all zeros. */

@@ -1,10 +1,10 @@
 -- Demand 3 passes from the methods of State to the exported calls: on the bytes of a state, a list does what it does on the state.
 use Prim.Native.Nat.{ℕ, _+_, _*_, _^_, _≤_, _<_}
-use mathlib.Core.Path.{_≡_, refl, sym, ap, _∙_}
-use mathlib.Core.Bool.{Bool, true, false}
+use mathlib.Core.Path.{_≡_, refl, sym, ap, ap₂, _∙_}
+use mathlib.Core.Bool.{Bool, true, false, cond, _&&_}
 use mathlib.Core.List.{List, [], _∷_, _++_, map, map-map}
 use native.Mathlib.Omega.{arith}
-use lib.Dec.{ltb}
+use lib.Dec.{eqb, ltb}
 use lib.ListN.{length, set}
 use lib.Seq.{set-append-left}
 use borrow.Author.Tests.{le-ltb}
@@ -16,6 +16,8 @@ use Rattle.checker.proofs.Whole.{accepted-lawful}
 use Rattle.machine.specs.declared.state.State.{State}
 use Rattle.machine.specs.State.{refusalOf, Typed, Bytes}
 use Rattle.machine.specs.Step.{stepOf}
+use Rattle.machine.specs.Run.{runOf}
+use Rattle.machine.specs.Resume.{resumeOf}
 use Rattle.machine.proofs.Steps.{step-typed, step-bytes}
 use Rattle.machine.proofs.Runs.{run-typed, run-bytes}
 use Rattle.machine.proofs.Resumes.{resume-typed, resume-memory}
@@ -24,9 +26,10 @@ use Rattle.codec.proofs.RoundTrip.{bytes-lawful, state-bytes, bytes-bytes, stat
 use Rattle.cc100.specs.Calls.{callRefusal}
 use Rattle.cc100.proofs.Calls.{step-call, run-call, resume-call}
 use Rattle.confinement.specs.Events.{Write, Register, Hi, Lo, Byte, Event, Step, Run, Resume, Change, isOther, mayWrite}
-use Rattle.confinement.specs.Calls.{Lent, lent, Reply, putState, putBytes, methods, exported}
-use Rattle.confinement.specs.Lists.{isExit, mayAll, putByte, putAll, stands, changeOf, eventOf, listOf, tries, listTries}
+use Rattle.confinement.specs.Calls.{Lent, lent, Stepped, Resumed, Reply, replied, ranTo, answered, ranBytes, putState, putBytes, methods, exported}
+use Rattle.confinement.specs.Lists.{isExit, mayAll, putByte, putAll, stands, changeOf, eventOf, listOf, at, runTries, tries, listTries}
 use Rattle.confinement.specs.Demand.{All, Start, Confinement, Alike, Seen, seen, Demand3}
+use Rattle.confinement.proofs.Definitions.{stands-may}
 use Rattle.confinement.proofs.Words.{set-append, store-flat}
 use Rattle.confinement.proofs.Hosts.{other-below, put-typed, put-memory}
 
@@ -58,16 +61,16 @@ module _ (l : Layout) where
 
 -- ---- an event
 
-abbrev inBytes : Lent State → Lent (List ℕ)
+abbrev pub inBytes : Lent State → Lent (List ℕ)
 inBytes w = lent (bytesOf (w .state)) (w .memory)
 
-abbrev toBytes : Reply State → Reply (List ℕ)
+abbrev pub toBytes : Reply State → Reply (List ℕ)
 toBytes r = record { answer = r .answer; left = inBytes (r .left) }
 
 -- what every event keeps
-record Ranged (w : Lent State) : Type 0 where
-  typed : Typed (w .state)
-  bytes : Bytes (w .memory)
+pub record Ranged (w : Lent State) : Type 0 where
+  pub typed : Typed (w .state)
+  pub bytes : Bytes (w .memory)
 
 module _ (l : Layout) where
   put-all-ranged : (xs : List Write) (w : Lent State) → mayAll l xs ≡ true → Ranged w → Ranged (putAll methods l xs w)
@@ -98,32 +101,36 @@ module _ (l : Layout) where
     whole : isState (bytesOf s) ≡ true
     whole = bytes-lawful s (g .typed .count)
 
-    same-refusal : callRefusal (bytesOf s) (length m) ≡ refusalOf s (length m)
+    same-refusal : (n : ℕ) → callRefusal (bytesOf s) n ≡ refusalOf s n
     unfolding callRefusal
-    same-refusal = rw (whole, same)
+    same-refusal n = rw (whole, same)
 
     -- a change: both levels try the step of one state
     module _ (xs : List Write) where
       same-stands : stands exported l xs (inBytes w) ≡ stands methods l xs w
       unfolding stands
-      same-stands = rw same
+      same-stands = ap (λ x. isExit (stepOf x m .number) && mayAll l xs) same
 
-      stands-may : stands methods l xs w ≡ true → mayAll l xs ≡ true
-      unfolding stands
-      stands-may e = both (isExit (stepOf s m .number)) (mayAll l xs) e .1
+      may : stands methods l xs w ≡ true → mayAll l xs ≡ true
+      may = stands-may methods l xs w
 
       change-bytes : (t : Bool) → stands methods l xs w ≡ t → changeOf exported l xs (inBytes w) ≡ toBytes (changeOf methods l xs w)
-      change-bytes true e = rw (same-stands, e, put-all-bytes xs w (stands-may e) (g .typed))
+      change-bytes true e = rw (same-stands, e, put-all-bytes xs w (may e) (g .typed))
       change-bytes false e = rw (same-stands, e)
 
       change-ranged : (t : Bool) → stands methods l xs w ≡ t → Ranged (changeOf methods l xs w .left)
-      change-ranged true e = rw e (put-all-ranged xs w (stands-may e) g)
+      change-ranged true e = rw e (put-all-ranged xs w (may e) g)
       change-ranged false e = rw e g
 
     event-bytes : (e : Event) → eventOf exported l e (inBytes w) ≡ toBytes (eventOf methods l e w)
-    event-bytes Step = rw (step-call (bytesOf s) m (bytes-bytes s) whole, same)
-    event-bytes (Run n) = rw (run-call (bytesOf s) m (bytes-bytes s) whole n, same)
-    event-bytes Resume = rw (resume-call (bytesOf s) m (bytes-bytes s) whole, same)
+    event-bytes Step =
+        ap (answered Stepped) (step-call (bytesOf s) m (bytes-bytes s) whole)
+        ∙ ap (λ x. toBytes (replied Stepped (stepOf x m))) same
+    event-bytes (Run n) =
+        ap ranBytes (run-call (bytesOf s) m (bytes-bytes s) whole n) ∙ ap (λ x. toBytes (ranTo (runOf x m n))) same
+    event-bytes Resume =
+        ap (answered Resumed) (resume-call (bytesOf s) m (bytes-bytes s) whole)
+        ∙ ap (λ x. toBytes (replied Resumed (resumeOf x m))) same
     event-bytes (Change xs) = change-bytes xs (stands methods l xs w) refl
 
     event-ranged : (e : Event) → Ranged (eventOf methods l e w .left)
@@ -133,22 +140,24 @@ module _ (l : Layout) where
     event-ranged (Change xs) = change-ranged xs (stands methods l xs w) refl
 
     tries-bytes : (e : Event) → tries exported l e (inBytes w) ≡ tries methods l e w
-    tries-bytes Step = rw (same-refusal, same)
-    tries-bytes (Run n) = rw (same-refusal, same)
-    tries-bytes Resume = rw (same-refusal, same)
+    tries-bytes Step = ap₂ (λ k x. cond (eqb k 0) (at x m ∷ []) []) (same-refusal (length m)) same
+    tries-bytes (Run n) = ap₂ (λ k x. cond (eqb k 0) (runTries n x m) []) (same-refusal (length m)) same
+    tries-bytes Resume = ap₂ (λ k x. cond (eqb k 0) (at x m ∷ []) []) (same-refusal (length m)) same
     tries-bytes (Change xs) = refl
 
   -- ---- a list: each event leaves the bytes of the state that it leaves
 
-  list-bytes : (es : List Event) (w : Lent State) → Ranged w → listOf exported l es (inBytes w) ≡ map toBytes (listOf methods l es w)
+  pub list-bytes : (es : List Event) (w : Lent State) → Ranged w → listOf exported l es (inBytes w) ≡ map toBytes (listOf methods l es w)
   list-bytes [] w g = refl
   list-bytes (e ∷ es) w g =
-      rw (event-bytes w g e, list-bytes es (eventOf methods l e w .left) (event-ranged w g e))
+      ap (λ r. r ∷ listOf exported l es (r .left)) (event-bytes w g e)
+      ∙ ap (λ rs. toBytes (eventOf methods l e w) ∷ rs) (list-bytes es (eventOf methods l e w .left) (event-ranged w g e))
 
-  list-tries : (es : List Event) (w : Lent State) → Ranged w → listTries exported l es (inBytes w) ≡ listTries methods l es w
+  pub list-tries : (es : List Event) (w : Lent State) → Ranged w → listTries exported l es (inBytes w) ≡ listTries methods l es w
   list-tries [] w g = refl
   list-tries (e ∷ es) w g =
-      rw (tries-bytes w g e, event-bytes w g e, list-tries es (eventOf methods l e w .left) (event-ranged w g e))
+      ap₂ (λ ts us. ts ++ us) (tries-bytes w g e)
+      (ap (λ r. listTries exported l es (r .left)) (event-bytes w g e) ∙ list-tries es (eventOf methods l e w .left) (event-ranged w g e))
 
 -- ---- the two claims
 
@@ -222,6 +231,25 @@ module _ (l : Layout) (len : ℕ) (img : List ℕ) (h : len ≤ longest) (w : Le
 
   start-seen : (es : List Event) → map (seen l) (listOf exported l es w) ≡ map seenBytes (map (seen l) (listOf methods l es (viewed w)))
   start-seen es = ap (λ x. map (seen l) (listOf exported l es x)) (sym start-bytes) ∙ seen-bytes l es (viewed w) start-ranged
+
+-- and the bytes of a start are a start
+pub start-encoded : (l : Layout) (len : ℕ) (img : List ℕ) (w : Lent State) → Start methods l len img w → Start exported l len img (inBytes w)
+start-encoded l len img w p =
+    let g : Ranged w = record { typed = p .sized; bytes = p .bytes } in
+    let e = same l w g in
+    record {
+      placed = p .placed;
+      length-told = p .length-told;
+      not-17 = λ q. p .not-17 (sym (same-refusal l w g len) ∙ q);
+      first-word = rw e (p .first-word);
+      then-next = rw e (p .then-next);
+      user-mode = rw e (p .user-mode);
+      register-0 = rw e (p .register-0);
+      register-26 = rw e (p .register-26);
+      register-27 = rw e (p .register-27);
+      sized = bytes-bytes (w .state);
+      bytes = p .bytes;
+    }
 
 -- ---- the whole
 

@@ -1,3 +1,4 @@
+pub mod Definitions
 pub mod ByKind
 pub mod Moves
 pub mod Parts

@@ -20,6 +20,7 @@ use Rattle.confinement.specs.Events.{Write, Event, Step, Run, Resume, Ch
 use Rattle.confinement.specs.Calls.{Lent, lent, Reply, putState, methods}
 use Rattle.confinement.specs.Lists.{isExit, mayAll, putByte, putAll, stands, eventOf, listOf, runTries, tries, listTries}
 use Rattle.confinement.specs.Demand.{All, Allowed, Confined, Untouched, Expected}
+use Rattle.confinement.proofs.Definitions.{stands-exit, stands-may}
 use Rattle.confinement.proofs.ByKind.{Idle}
 use Rattle.confinement.proofs.Invariant.{Inside, idle-ready}
 use Rattle.confinement.proofs.Steps.{here, stands-here, unrefused, exit-is, confined, step-untouched}
@@ -160,13 +161,16 @@ module _ (l : Layout) (len : ℕ) (img : List ℕ) (ok : Lawful l len img) where
         (λ e. record { inside = resumed-inside l len img ok s m v (exiting isServed refl e); untouched = untouched-same l m; answered = inl refl })
         (λ _. record { inside = v; untouched = untouched-same l m; answered = inr refl }))
 
+    stood : (xs : List Write) → stands methods l xs w ≡ true → Left m (putAll methods l xs w .state) (putAll methods l xs w .memory) (Unit {0})
+    unfolding isExit
+    stood xs e =
+        let idle = exiting isExit refl (stands-exit methods l xs w e) in
+        put-left (v .position .word) (here l len img ok s m v) (stands-here l len img ok s m v) idle xs w (stands-may methods l xs w e)
+        (record { inside = v; word-is = refl })
+
     change-left : (xs : List Write) → Replied w (eventOf methods l (Change xs) w)
-    unfolding stands isExit
     change-left xs =
-        by-test (Replied w) (stands methods l xs w)
-        (λ e. (let (p, q) = both (isExit (stepOf s m .number)) (mayAll l xs) e in
-        let z = put-left (v .position .word) (here l len img ok s m v) (stands-here l len img ok s m v) (exiting isExit refl p) xs w q (record { inside = v; word-is = refl }) in
-        record { inside = z .inside; untouched = z .untouched; answered = tt }))
+        by-test (Replied w) (stands methods l xs w) (stood xs)
         (λ _. record { inside = v; untouched = untouched-same l m; answered = tt })
 
     pub event-left : (e : Event) → Replied w (eventOf methods l e w)

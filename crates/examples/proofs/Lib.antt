@@ -1,0 +1,4 @@
+pub mod Cases
+pub mod Starts
+pub mod Escapes
+pub mod Sample
