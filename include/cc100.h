@@ -10,7 +10,7 @@
 
    A module is confined, which is proved for every list of cc100_step, cc100_run and cc100_resume in any order, where the host
 
-   - has it accepted by cc100_check or cc100_check_placed, in the layout and with the memory length that it then has, and leaves its code area so;
+   - has it accepted by cc100_check or cc100_check_placed for the layout and memory length that it then runs in, and places it unchanged;
    - starts it with PC at the code base, next PC four more, register 26 the data base, register 27 the code base, register 0 zero, and a status
      with CC100_STATUS_USER set; all else in state and memory may be anything that is not refused;
    - hands each call the state and memory that the last one left, and changes in them only registers 1 to 25 and 28 to 31, HI, LO and bytes of

@@ -72,11 +72,12 @@ abbrev eight : ℕ → List Verdict
 eight i =
     verdict 8 i ∷ verdict 9 i ∷ verdict 10 i ∷ verdict 11 i ∷ verdict 12 i ∷ verdict 13 i ∷ verdict 14 i ∷ verdict 15 i ∷ []
 
-module _ (P : Verdict → Type 0) where
-  join : (s t : List Verdict) → All P s → All P t → All P (s ++ t)
+module _ {A : Type 0} (P : A → Type 0) where
+  pub join : (s t : List A) → All P s → All P t → All P (s ++ t)
   join [] t p q = q
   join (x ∷ s) t p q = (p .0, join s t (p .1) q)
 
+module _ (P : Verdict → Type 0) where
   halves : (s t : List Verdict) → All P (s ++ t) → All P s × All P t
   halves [] t p = (tt, p)
   halves (x ∷ s) t p = let h = halves s t (p .1) in ((p .0, h .0), h .1)
@@ -89,7 +90,7 @@ module _ (P : Verdict → Type 0) where
   of-words zero i w = let e : i + 0 ≡ i = omega arith in (rw e at (w .1), tt)
   of-words (suc n) i w =
       let e : i + suc n ≡ suc i + n = omega arith in
-      join (eight i) (wordTrials n (suc i)) (w .0 i (omega arith) (omega arith))
+      join P (eight i) (wordTrials n (suc i)) (w .0 i (omega arith) (omega arith))
       (of-words n (suc i) (λ j p q. w .0 j (omega arith) (omega arith), rw e at (w .1)))
 
   to-words : (n i : ℕ) → All P (wordTrials n i) → Words n i

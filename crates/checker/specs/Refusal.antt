@@ -43,9 +43,10 @@ WordRule l img n i =
 abbrev pub Keeps : Layout → ℕ → List ℕ → Verdict → Type 0
 Keeps l len img t = pick (leb (t .number) 7) (FileRule l len img (t .number)) (WordRule l img (t .number) (t .place))
 
-abbrev pub All : (Verdict → Type 0) → List Verdict → Type 0
+-- P holds of every element
+abbrev pub All : {A : Type 0} → (A → Type 0) → List A → Type 0
 All P [] = Unit {0}
-All P (t ∷ ts) = P t × All P ts
+All P (x ∷ xs) = P x × All P xs
 
 -- verdict t refuses the module
 pub record Refusal (l : Layout) (len : ℕ) (img : List ℕ) (t : Verdict) : Type 0 where

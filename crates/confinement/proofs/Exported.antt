@@ -12,6 +12,7 @@ use Rattle.word.specs.Bytes.{longest, storeOf}
 use Rattle.word.proofs.Choice.{both}
 use Rattle.layout.specs.declared.Layout.{Layout}
 use Rattle.checker.specs.Lawful.{Not}
+use Rattle.checker.specs.Refusal.{All}
 use Rattle.checker.proofs.Whole.{accepted-lawful}
 use Rattle.machine.specs.declared.state.State.{State}
 use Rattle.machine.specs.State.{refusalOf, Typed, Bytes}
@@ -28,7 +29,7 @@ use Rattle.cc100.proofs.Calls.{step-call, run-call, resume-call}
 use Rattle.confinement.specs.Events.{Write, Register, Hi, Lo, Byte, Event, Step, Run, Resume, Change, isOther, mayWrite}
 use Rattle.confinement.specs.Calls.{Lent, lent, Stepped, Resumed, Reply, replied, ranTo, answered, ranBytes, putState, putBytes, methods, exported}
 use Rattle.confinement.specs.Lists.{isExit, mayAll, putByte, putAll, stands, changeOf, eventOf, listOf, at, runTries, tries, listTries}
-use Rattle.confinement.specs.Demand.{All, Start, Confinement, Alike, Seen, seen, Demand3}
+use Rattle.confinement.specs.Demand.{Start, Confinement, Alike, Seen, seen, Demand3}
 use Rattle.confinement.proofs.Definitions.{stands-may}
 use Rattle.confinement.proofs.Words.{set-append, store-flat}
 use Rattle.confinement.proofs.Hosts.{other-below, put-typed, put-memory}

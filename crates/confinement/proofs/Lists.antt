@@ -16,10 +16,12 @@ use Rattle.machine.specs.Run.{Course, repeatOf, runOf}
 use Rattle.machine.specs.Resume.{isServed, resumeOf}
 use Rattle.machine.proofs.Runs.{run-repeats}
 use Rattle.checker.specs.Lawful.{Stands, Lawful}
+use Rattle.checker.specs.Refusal.{All}
+use Rattle.checker.proofs.Whole.{join}
 use Rattle.confinement.specs.Events.{Write, Event, Step, Run, Resume, Change, isOther, mayWrite}
 use Rattle.confinement.specs.Calls.{Lent, lent, Reply, putState, methods}
 use Rattle.confinement.specs.Lists.{isExit, mayAll, putByte, putAll, stands, eventOf, listOf, runTries, tries, listTries}
-use Rattle.confinement.specs.Demand.{All, Allowed, Confined, Untouched, Expected}
+use Rattle.confinement.specs.Demand.{Allowed, Confined, Untouched, Expected}
 use Rattle.confinement.proofs.Definitions.{stands-exit, stands-may}
 use Rattle.confinement.proofs.ByKind.{Idle}
 use Rattle.confinement.proofs.Invariant.{Inside, idle-ready}
@@ -36,10 +38,6 @@ untouched-then l m n o p q =
       same-length = q .same-length ∙ p .same-length;
       same-bytes = λ a h. q .same-bytes a h ∙ p .same-bytes a h;
     }
-
-pub all-append : {A : Type 0} (P : A → Type 0) (xs ys : List A) → All P xs → All P ys → All P (xs ++ ys)
-all-append P [] ys p q = q
-all-append P (x ∷ xs) ys p q = (p .0, all-append P xs ys (p .1) q)
 
 module _ (l : Layout) (len : ℕ) (img : List ℕ) (ok : Lawful l len img) where
   -- what a call leaves, from memory m
@@ -205,6 +203,6 @@ module _ (l : Layout) (len : ℕ) (img : List ℕ) (ok : Lawful l len img) where
   pub list-confined : (es : List Event) (w : Lent State) → Inside l len img (w .state) (w .memory) → All (Confined l) (listTries methods l es w)
   list-confined [] w v = tt
   list-confined (e ∷ es) w v =
-      all-append (Confined l) (tries methods l e w) (listTries methods l es (eventOf methods l e w .left))
+      join (Confined l) (tries methods l e w) (listTries methods l es (eventOf methods l e w .left))
       (event-confined w v e)
       (list-confined es (eventOf methods l e w .left) (event-left w v e .inside))

@@ -3,11 +3,12 @@ use Prim.Native.Nat.{ℕ, _+_, _≤_}
 use mathlib.Core.Path.{_≡_}
 use mathlib.Core.Bool.{true, false}
 use mathlib.Core.Logic.{_⊎_}
-use mathlib.Core.List.{List, [], _∷_, map}
+use mathlib.Core.List.{List, map}
 use lib.ListN.{length, getD, take, drop}
 use Rattle.layout.specs.declared.Layout.{Layout}
 use Rattle.checker.specs.Check.{accepted, checkOf, codeOf}
 use Rattle.checker.specs.Lawful.{Not}
+use Rattle.checker.specs.Refusal.{All}
 use Rattle.system.specs.System.{isUser}
 use Rattle.machine.specs.State.{registerOf, Bytes}
 use Rattle.machine.specs.Apply.{Machine, Span, span}
@@ -16,10 +17,6 @@ use Rattle.machine.specs.Resume.{isServed}
 use Rattle.confinement.specs.Events.{Event, isData}
 use Rattle.confinement.specs.Calls.{Lent, Answer, Stepped, Ran, Resumed, Changed, Reply, Calls}
 use Rattle.confinement.specs.Lists.{listOf, listTries}
-
-abbrev pub All : {A : Type 0} → (A → Type 0) → List A → Type 0
-All P [] = Unit {0}
-All P (x ∷ xs) = P x × All P xs
 
 -- the bytes x lie in the area of `size` bytes at `base`
 abbrev pub Within : ℕ → ℕ → Span → Type 0

@@ -25,9 +25,10 @@ use Rattle.checker.specs.Offset.{offsetOf}
 use Rattle.checker.specs.Rules.{viewAt, viewBefore, broken10, broken11, isGuarded, fitsData, fitsCode, broken12, broken13, broken14, targetOf, isEntry, lands, broken15}
 use Rattle.checker.specs.Check.{isWordBroken, isFileBroken, accepted, checkOf, codeOf}
 use Rattle.checker.specs.Lawful.{Not}
+use Rattle.checker.specs.Refusal.{All}
 use Rattle.checker.proofs.Says.{Says, holds, fails, eqs, les, ands, ors, saying}
 use Rattle.confinement.specs.Calls.{methods}
-use Rattle.confinement.specs.Demand.{All, Within, Start, Confined, Confinement}
+use Rattle.confinement.specs.Demand.{Within, Start, Confined, Confinement}
 use Rattle.examples.specs.Escapes.{isWithin, isConfined, Escape, FetchesAt, AccessesAt, Exits, Nothing, firstEscape, Row, imageOf, memoryLength, lentOf, events, triedIn, Finding, found, wanted, escapes, hosts}
 use Rattle.examples.proofs.Starts.{factsOf, factsDue, starts}
 
