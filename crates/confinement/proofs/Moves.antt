@@ -17,7 +17,8 @@ use Rattle.effect.specs.Sound.{Sound}
 use Rattle.system.specs.System.{isUser}
 use Rattle.machine.specs.declared.state.State.{State}
 use Rattle.machine.specs.State.{registerOf, specialOf}
-use Rattle.machine.specs.Apply.{putOf, applyOf}
+use Rattle.apply.specs.Apply.{putOf}
+use Rattle.machine.specs.Apply.{applyOf}
 use Rattle.machine.specs.Step.{exitOf}
 use Rattle.checker.specs.Lawful.{Not}
 use Rattle.confinement.proofs.ByKind.{Goes, Follows}

@@ -6,7 +6,7 @@ use lib.ListN.{set}
 use Rattle.word.specs.Bytes.{storeOf}
 use Rattle.machine.specs.declared.state.State.{State}
 use Rattle.machine.specs.State.{specialOf, joinOf, refusalOf, Typed, Bytes}
-use Rattle.machine.specs.Apply.{pairOf}
+use Rattle.apply.specs.Apply.{pairOf}
 use Rattle.machine.specs.Step.{Outcome, stepOf}
 use Rattle.machine.specs.Run.{Course, runOf}
 use Rattle.machine.specs.Resume.{resumeOf}

@@ -13,7 +13,8 @@ use Rattle.branch.specs.Branch.{slotOf, regionOf, jumpIf}
 use Rattle.system.specs.System.{isUser, systemCallOf, breakpointOf, privileged}
 use Rattle.decision.specs.Decision.{decisionOf}
 use Rattle.machine.specs.State.{isLawful, refusalOf}
-use Rattle.machine.specs.Apply.{Machine, Span, putOf}
+use Rattle.apply.specs.Apply.{putOf}
+use Rattle.machine.specs.Apply.{Machine, Span}
 use Rattle.machine.specs.Step.{effectOf, effectAt, accessAt, tryOf, stepOf}
 use Rattle.machine.specs.Run.{repeatOf, runOf}
 use Rattle.machine.specs.Resume.{isServed, resumeOf}

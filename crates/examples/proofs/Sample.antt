@@ -22,7 +22,8 @@ use Rattle.system.specs.System.{isUser, systemCallOf}
 use Rattle.decision.specs.Decision.{decisionOf}
 use Rattle.machine.specs.declared.state.State.{State}
 use Rattle.machine.specs.State.{isLawful, refusalOf}
-use Rattle.machine.specs.Apply.{Machine, applyOf, putOf}
+use Rattle.apply.specs.Apply.{putOf}
+use Rattle.machine.specs.Apply.{Machine, applyOf}
 use Rattle.machine.specs.Step.{effectOf, effectAt, readEffect, exitOf, Outcome, outcome, tryOf, stepOf}
 use Rattle.machine.specs.Run.{Course, course, later, repeatOf, runOf}
 use Rattle.machine.specs.Resume.{isServed, resumedOf, resumeOf}

@@ -13,10 +13,11 @@ use Rattle.effect.specs.declared.effect.Special.{Special}
 use Rattle.effect.specs.declared.effect.Effect.{Effect}
 use Rattle.machine.specs.declared.state.State.{State}
 use Rattle.machine.specs.State.{registerOf, specialOf, joinOf, isLawful, refusalOf, Typed, Bytes}
-use Rattle.machine.specs.Apply.{machine, applyOf}
+use Rattle.apply.specs.Apply.{parts, appliedOf}
+use Rattle.machine.specs.Apply.{joined, applyOf}
 use Rattle.machine.specs.Step.{effectAt, exitOf, Outcome, outcome, stepOf}
 use Rattle.machine.specs.Run.{Course, course, halted, later, repeatOf, runOf, thenOf, afterOf}
-use Rattle.machine.proofs.Steps.{step-refused, step-done, step-number, step-valid, step-lawful, step-typed, step-bytes, step-length, step-zero, exit-leaves, not-refused, refused-alike, apply-exit}
+use Rattle.machine.proofs.Steps.{step-refused, step-done, step-number, step-valid, step-lawful, step-typed, step-bytes, step-length, step-zero, exit-leaves, not-refused, refused-alike, applied-exit}
 use Rattle.machine.proofs.Valid.{Valid, valid, valid-lawful}
 
 -- no step more
@@ -27,14 +28,14 @@ halted-later done o = let z : done + 0 ≡ done = omega arith in rw z
 
 module _ (s : State) (m : List ℕ) (z : refusalOf s (length m) ≡ 0) (e : Effect) (given : e ≡ effectAt s m) where
   step-exits : (exitOf e ≡ 0 → ⊥) → outcome (exitOf e) s m ≡ stepOf s m
-  step-exits n = step-done s m z (specialOf s) refl e given (s .registers) (specialOf s) m (sym (apply-exit e s m n)) (exitOf e) refl s refl
+  step-exits n = step-done s m z (specialOf s) refl e given (s .registers) (specialOf s) m (sym (applied-exit e (s .registers) (specialOf s) m n)) (exitOf e) refl s refl
 
-  step-completes : (l : List ℕ) (d : Special) (x : List ℕ) → machine l d x ≡ applyOf e s m → exitOf e ≡ 0 → outcome 0 (joinOf l d) x ≡ stepOf s m
+  step-completes : (l : List ℕ) (d : Special) (x : List ℕ) → parts l d x ≡ appliedOf e (s .registers) (specialOf s) m → exitOf e ≡ 0 → outcome 0 (joinOf l d) x ≡ stepOf s m
   step-completes l d x a n = step-done s m z (specialOf s) refl e given l d x a 0 (sym n) (joinOf l d) refl
 
   -- the next turn is not refused either
-  pub turn-lawful : (n : ℕ) (l : List ℕ) (d : Special) (x : List ℕ) → machine l d x ≡ applyOf e s m → refusalOf s n ≡ 0 → isLawful (applyOf e s m .state) ≡ true → refusalOf (joinOf l d) n ≡ 0
-  turn-lawful n l d x a y h = refused-alike s (joinOf l d) n y (ap (λ o. isLawful (o .state)) a ∙ h)
+  pub turn-lawful : (n : ℕ) (l : List ℕ) (d : Special) (x : List ℕ) → parts l d x ≡ appliedOf e (s .registers) (specialOf s) m → refusalOf s n ≡ 0 → isLawful (applyOf e s m .state) ≡ true → refusalOf (joinOf l d) n ≡ 0
+  turn-lawful n l d x a y h = refused-alike s (joinOf l d) n y (ap (λ o. isLawful (joined o .state)) a ∙ h)
 
   module _ (done b : ℕ) (h : done < b) where
     left : b - done ≡ suc (b - (done + 1))
@@ -44,7 +45,7 @@ module _ (s : State) (m : List ℕ) (z : refusalOf s (length m) ≡ 0) (e : Effe
     unfolding repeatOf
     turn-exits n = rw (left, ← step-exits n, ne-eqb _ _ n) (halted-later done (outcome (exitOf e) s m))
 
-    pub turn-completes : (l : List ℕ) (d : Special) (x : List ℕ) → machine l d x ≡ applyOf e s m → exitOf e ≡ 0 → later (done + 1) (repeatOf (b - (done + 1)) (joinOf l d) x) ≡ later done (repeatOf (b - done) s m)
+    pub turn-completes : (l : List ℕ) (d : Special) (x : List ℕ) → parts l d x ≡ appliedOf e (s .registers) (specialOf s) m → exitOf e ≡ 0 → later (done + 1) (repeatOf (b - (done + 1)) (joinOf l d) x) ≡ later done (repeatOf (b - done) s m)
     unfolding repeatOf
     turn-completes l d x a n =
         let r = repeatOf (b - (done + 1)) (joinOf l d) x in

@@ -25,7 +25,8 @@ use Rattle.effect.specs.Sound.{Sound}
 use Rattle.decision.proofs.Sound.{exits, decision-sound}
 use Rattle.machine.specs.declared.state.State.{State}
 use Rattle.machine.specs.State.{registerOf, specialOf, joinOf, isLawful, refusalOf, Typed, Bytes}
-use Rattle.machine.specs.Apply.{Machine, machine, Span, span, appliedOf, applyOf, storedOf, Outside}
+use Rattle.apply.specs.Apply.{Parts, parts, appliedOf}
+use Rattle.machine.specs.Apply.{Span, span, joined, applyOf, storedOf, Outside}
 use Rattle.machine.specs.Step.{effectOf, readEffect, effectAt, readAccess, accessAt, exitOf, Outcome, outcome, tryOf, stepOf}
 use Rattle.machine.proofs.Valid.{Valid, valid, valid-lawful, typed, apply-valid, apply-zero}
 
@@ -71,23 +72,26 @@ fetch-operands m a w r i b l g e = read-operands w (rw l (load-lt 4 m a b)) i (s
 
 -- ---- an exit and a refusal leave everything
 
-pub apply-exit : (e : Effect) (s : State) (m : List ℕ) → (exitOf e ≡ 0 → ⊥) → applyOf e s m ≡ record { state = s; memory = m }
-apply-exit (Exit e) s m n = refl
-apply-exit Advance s m n = absurd (n refl)
-apply-exit (Write r v) s m n = absurd (n refl)
-apply-exit (Pair h l) s m n = absurd (n refl)
-apply-exit (Jump t) s m n = absurd (n refl)
-apply-exit (Link r v t) s m n = absurd (n refl)
-apply-exit (LoadByte r a x) s m n = absurd (n refl)
-apply-exit (LoadHalf r a x) s m n = absurd (n refl)
-apply-exit (LoadWord r a) s m n = absurd (n refl)
-apply-exit (LoadLinked r a) s m n = absurd (n refl)
-apply-exit (StoreByte a v) s m n = absurd (n refl)
-apply-exit (StoreHalf a v) s m n = absurd (n refl)
-apply-exit (StoreWord a v) s m n = absurd (n refl)
-apply-exit (StoreLinked r a v) s m n = absurd (n refl)
-apply-exit (Control r v) s m n = absurd (n refl)
-apply-exit (Return x) s m n = absurd (n refl)
+pub applied-exit : (e : Effect) (l : List ℕ) (c : Special) (m : List ℕ) → (exitOf e ≡ 0 → ⊥) → appliedOf e l c m ≡ parts l c m
+applied-exit (Exit e) l c m n = refl
+applied-exit Advance l c m n = absurd (n refl)
+applied-exit (Write r v) l c m n = absurd (n refl)
+applied-exit (Pair h o) l c m n = absurd (n refl)
+applied-exit (Jump t) l c m n = absurd (n refl)
+applied-exit (Link r v t) l c m n = absurd (n refl)
+applied-exit (LoadByte r a x) l c m n = absurd (n refl)
+applied-exit (LoadHalf r a x) l c m n = absurd (n refl)
+applied-exit (LoadWord r a) l c m n = absurd (n refl)
+applied-exit (LoadLinked r a) l c m n = absurd (n refl)
+applied-exit (StoreByte a v) l c m n = absurd (n refl)
+applied-exit (StoreHalf a v) l c m n = absurd (n refl)
+applied-exit (StoreWord a v) l c m n = absurd (n refl)
+applied-exit (StoreLinked r a v) l c m n = absurd (n refl)
+applied-exit (Control r v) l c m n = absurd (n refl)
+applied-exit (Return x) l c m n = absurd (n refl)
+
+apply-exit : (e : Effect) (s : State) (m : List ℕ) → (exitOf e ≡ 0 → ⊥) → applyOf e s m ≡ record { state = s; memory = m }
+apply-exit e s m n = ap joined (applied-exit e (s .registers) (specialOf s) m n)
 
 -- what holds of the step tried and of the answer unchanged holds of the step
 module _ (P : Outcome → Type 0) (s : State) (m : List ℕ) where
@@ -101,10 +105,10 @@ module _ (s : State) (m : List ℕ) where
   unfolding stepOf
   step-refused k e n = rw (← e, ne-eqb k 0 n)
 
-  abbrev tried : Effect → Machine → Outcome
-  tried e x = record { number = exitOf e; machine = x }
+  abbrev tried : Effect → Parts → Outcome
+  tried e x = record { number = exitOf e; machine = joined x }
 
-  pub step-done : refusalOf s (length m) ≡ 0 → (c : Special) → c ≡ specialOf s → (e : Effect) → e ≡ effectAt s m → (l : List ℕ) (d : Special) (x : List ℕ) → machine l d x ≡ appliedOf e (s .registers) c m → (k : ℕ) → k ≡ exitOf e → (t : State) → t ≡ joinOf l d → outcome k t x ≡ stepOf s m
+  pub step-done : refusalOf s (length m) ≡ 0 → (c : Special) → c ≡ specialOf s → (e : Effect) → e ≡ effectAt s m → (l : List ℕ) (d : Special) (x : List ℕ) → parts l d x ≡ appliedOf e (s .registers) c m → (k : ℕ) → k ≡ exitOf e → (t : State) → t ≡ joinOf l d → outcome k t x ≡ stepOf s m
   unfolding stepOf tryOf
   step-done z c p e q l d x a k n t j =
       rw (n, j) (ap (tried e) a ∙ rw (z, ← q, p))

@@ -7,7 +7,7 @@ use native.Mathlib.Omega.{arith}
 use lib.Dec.{eqb}
 use lib.ListN.{length, set, length-set}
 use lib.Seq.{getD-set-other}
-use borrow.Author.Tests.{eqb-true, eqb-false, ltb-true, ne-eqb, lt-ltb}
+use borrow.Author.Tests.{eqb-true, eqb-false, ltb-true, lt-ltb}
 use Rattle.word.specs.Number.{signedOf, extendOf}
 use Rattle.word.specs.Bytes.{loadOf}
 use Rattle.word.proofs.Choice.{by-test, both}
@@ -20,7 +20,8 @@ use Rattle.effect.specs.Sound.{Sound, Performable, Word, Aligned, Regular}
 use Rattle.branch.proofs.Targets.{slot-aligned}
 use Rattle.machine.specs.declared.state.State.{State}
 use Rattle.machine.specs.State.{registerOf, specialOf, joinOf, isLawful, Words, Typed, Bytes}
-use Rattle.machine.specs.Apply.{special, putOf, jumpOf, advanceOf, pairOf, linkedOf, statusOf, controlledOf, loadedOf, appliedOf, applyOf}
+use Rattle.apply.specs.Apply.{special, putOf, jumpOf, advanceOf, pairOf, linkedOf, statusOf, controlledOf, loadedOf, appliedOf}
+use Rattle.machine.specs.Apply.{applyOf}
 
 -- ---- the 32 registers
 
@@ -86,14 +87,6 @@ typed s v =
     record { count = v .registers .count; registers = v .registers .words; special = words (specialOf s) (v .special) }
 
 module _ (l : List ℕ) (r v : ℕ) where
-  pub put-other : (r ≡ 0 → ⊥) → set l r v ≡ putOf l r v
-  unfolding putOf
-  put-other n = rw (ne-eqb r 0 n)
-
-  pub put-none : r ≡ 0 → l ≡ putOf l r v
-  unfolding putOf
-  put-none e = rw e
-
   zero-of : (t : Bool) → eqb r 0 ≡ t → registerOf (cond t l (set l r v)) 0 ≡ registerOf l 0
   zero-of true e = refl
   zero-of false e = getD-set-other l r 0 v 0 (λ q. eqb-false r 0 e (sym q))
@@ -168,7 +161,7 @@ loaded-below k x false h = h
 
 -- the other registers need nothing of the 32 and of memory
 module _ (l : List ℕ) {c : Special} (m : List ℕ) (q : Regular c) where
-  applied-regular : {n at w : ℕ} (e : Effect) → Sound e n at w → Regular (specialOf (appliedOf e l c m .state))
+  applied-regular : {n at w : ℕ} (e : Effect) → Sound e n at w → Regular (appliedOf e l c m .special)
   applied-regular (Exit e) k = q
   applied-regular Advance k = advance-regular q
   applied-regular (Write r v) k = advance-regular q
@@ -199,7 +192,7 @@ module _ {l : List ℕ} (c : Special) (m : List ℕ) (g : Registers l) (b : Byte
   written : (r : ℕ) {v : ℕ} → Word v → Registers (putOf l r v)
   written r {v} h = put-registers l r v g h
 
-  applied-registers : {n at w : ℕ} (e : Effect) → Sound e n at w → Registers (appliedOf e l c m .state .registers)
+  applied-registers : {n at w : ℕ} (e : Effect) → Sound e n at w → Registers (appliedOf e l c m .registers)
   applied-registers (Exit e) k = g
   applied-registers Advance k = g
   applied-registers (Write r v) k = written r (k .keeps .1)

@@ -1,5 +1,4 @@
 // The machine: its state, one step, a run, and a resume.
-pub mod apply;
 pub mod resume;
 pub mod run;
 pub mod state;

@@ -36,7 +36,7 @@ fn repeat(c: Special, registers: &mut [u32; 32], memory: &mut [u8], budget: u32)
                 special,
             };
         }
-        special = crate::apply::apply(e, special, registers, memory);
+        special = apply::apply(e, special, registers, memory);
         steps += 1;
     }
     Course {

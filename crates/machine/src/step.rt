@@ -93,7 +93,7 @@ impl State {
         let mut registers = self.registers;
         let special = self.special();
         let e = effect_at(special, &registers, memory);
-        let after = crate::apply::apply(e, special, &mut registers, memory);
+        let after = apply::apply(e, special, &mut registers, memory);
         Stepped {
             number: exit_of(e),
             state: crate::state::join(registers, after),

@@ -1,6 +1,6 @@
 use mathlib.Core.Path.{refl}
-use Rattle.machine.proofs.apply.jump.Statement.{statement}
-use Rattle.machine.proofs.apply.jump.Tie as tie
+use Rattle.apply.proofs.jump.Statement.{statement}
+use Rattle.apply.proofs.jump.Tie as tie
 
 returns : tie.Need-returns
 returns c = refl

@@ -5,7 +5,7 @@ ghost use Prim.Native.Nat.{_+_, _%_, _^_, _≤_, _<_};
 ghost use lib.ListN.{length};
 ghost use Rattle.word.specs.Bytes.{loadOf, storeOf};
 ghost use Rattle.effect.specs.Sound.{Performable};
-ghost use Rattle.machine.specs.Apply as Spec;
+ghost use Rattle.apply.specs.Apply as Spec;
 use effect::effect::Effect;
 use effect::effect::Special;
 
@@ -159,15 +159,15 @@ fn store_linked(
     c: Special,
 ) -> Special
     requires { ⌜ (r < 2 ^ 5) × (a + 4 ≤ length (now memory)) ⌝ }
-    ensures { λ d. ⌜ Spec.machine (now (registers .exit)) d (now (memory .exit)) ≡ Spec.machine (Spec.putOf (now (registers .entry)) r 1) (Spec.linkedOf (Spec.advanceOf c) false) (storeOf 4 (now (memory .entry)) a v) ⌝ }
+    ensures { λ d. ⌜ Spec.parts (now (registers .exit)) d (now (memory .exit)) ≡ Spec.parts (Spec.putOf (now (registers .entry)) r 1) (Spec.linkedOf (Spec.advanceOf c) false) (storeOf 4 (now (memory .entry)) a v) ⌝ }
 {
     word::bytes::store32(memory, a as usize, v);
     linked(write(registers, r, 1, c), false)
 }
 
-pub(crate) fn apply(e: Effect, c: Special, registers: &mut [u32; 32], memory: &mut [u8]) -> Special
+pub fn apply(e: Effect, c: Special, registers: &mut [u32; 32], memory: &mut [u8]) -> Special
     requires { ⌜ Performable e (length (now memory)) ⌝ }
-    ensures { λ d. ⌜ Spec.machine (now (registers .exit)) d (now (memory .exit)) ≡ Spec.appliedOf e (now (registers .entry)) c (now (memory .entry)) ⌝ }
+    ensures { λ d. ⌜ Spec.parts (now (registers .exit)) d (now (memory .exit)) ≡ Spec.appliedOf e (now (registers .entry)) c (now (memory .entry)) ⌝ }
 {
     match e {
         Effect::Exit(_) => c,

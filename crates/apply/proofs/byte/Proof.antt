@@ -1,7 +1,7 @@
-use Rattle.machine.specs.Apply.{loadedOf}
+use Rattle.apply.specs.Apply.{loadedOf}
 use borrow.Author.Needs.{needs}
-use Rattle.machine.proofs.apply.byte.Statement.{statement}
-use Rattle.machine.proofs.apply.byte.Tie as tie
+use Rattle.apply.proofs.byte.Statement.{statement}
+use Rattle.apply.proofs.byte.Tie as tie
 
 returns : tie.Need-returns
 unfolding loadedOf

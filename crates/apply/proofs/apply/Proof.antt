@@ -1,6 +1,6 @@
 use borrow.Author.Needs.{needs}
-use Rattle.machine.proofs.apply.apply.Statement.{statement}
-use Rattle.machine.proofs.apply.apply.Tie as tie
+use Rattle.apply.proofs.apply.Statement.{statement}
+use Rattle.apply.proofs.apply.Tie as tie
 
 pub apply-spec : {M : Type 1} → statement M
 apply-spec =

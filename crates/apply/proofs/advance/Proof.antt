@@ -1,6 +1,6 @@
 use borrow.Author.Needs.{needs}
-use Rattle.machine.proofs.apply.advance.Statement.{statement}
-use Rattle.machine.proofs.apply.advance.Tie as tie
+use Rattle.apply.proofs.advance.Statement.{statement}
+use Rattle.apply.proofs.advance.Tie as tie
 
 returns : tie.Need-returns
 returns c = rw (c .jump .ensures, c .before .slot .ensures)

@@ -1,7 +1,7 @@
 use borrow.Author.Needs.{needs}
-use Rattle.machine.proofs.Valid.{put-other, put-none}
-use Rattle.machine.proofs.apply.put.Statement.{statement}
-use Rattle.machine.proofs.apply.put.Tie as tie
+use Rattle.apply.proofs.Registers.{put-other, put-none}
+use Rattle.apply.proofs.put.Statement.{statement}
+use Rattle.apply.proofs.put.Tie as tie
 
 returns : tie.Need-returns
 returns c = put-other _ _ _ (c .if1 .taken)

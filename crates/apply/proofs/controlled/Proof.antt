@@ -1,7 +1,7 @@
-use Rattle.machine.specs.Apply.{controlledOf}
+use Rattle.apply.specs.Apply.{controlledOf}
 use borrow.Author.Tests.{eq-eqb, ne-eqb}
-use Rattle.machine.proofs.apply.controlled.Statement.{statement}
-use Rattle.machine.proofs.apply.controlled.Tie as tie
+use Rattle.apply.proofs.controlled.Statement.{statement}
+use Rattle.apply.proofs.controlled.Tie as tie
 
 returns : tie.Need-returns
 unfolding controlledOf

@@ -1,6 +1,6 @@
 use borrow.Author.Needs.{needs}
-use Rattle.machine.proofs.apply.store_linked.Statement.{statement}
-use Rattle.machine.proofs.apply.store_linked.Tie as tie
+use Rattle.apply.proofs.store_linked.Statement.{statement}
+use Rattle.apply.proofs.store_linked.Tie as tie
 
 returns : tie.Need-returns
 returns c = rw (c .linked .ensures, c .before .write .ensures .0, c .before .write .ensures .1, c .before .before .before .before .before .store32 .ensures)
