@@ -11,9 +11,9 @@ use Rattle.layout.specs.declared.Layout.{Layout}
 use Rattle.machine.specs.declared.state.State.{State}
 use Rattle.machine.specs.Step.{stepOf}
 use Rattle.machine.specs.Run.{repeatOf}
-use Rattle.confinement.specs.Events.{Write, Event, Step, Resume, Change, isOther}
+use Rattle.confinement.specs.Events.{Write, Event, Step, Run, Resume, Change, isOther}
 use Rattle.confinement.specs.Calls.{Lent, Calls}
-use Rattle.confinement.specs.Lists.{isExit, mayAll, stands, eventOf, listOf, runTries, tries, listTries}
+use Rattle.confinement.specs.Lists.{isExit, mayAll, stands, eventOf, listOf, at, runTries, tries, listTries}
 
 -- registers 0 to 32: a host may change 1 to 25 and 28 to 31
 pub other-registers : map isOther (0 ∷ 1 ∷ 2 ∷ 25 ∷ 26 ∷ 27 ∷ 28 ∷ 31 ∷ 32 ∷ []) ≡ false ∷ true ∷ true ∷ true ∷ false ∷ false ∷ true ∷ true ∷ false ∷ []
@@ -72,6 +72,14 @@ module _ {S : Type 0} (c : Calls S) (l : Layout) where
       ap (λ ts. tries c l e w ++ ts) (tries-append es fs (eventOf c l e w .left))
       ∙ sym (append-assoc (tries c l e w) (listTries c l es (eventOf c l e w .left)) (listTries c l fs (leftBy es (eventOf c l e w .left))))
 
+  -- a call that is not refused by 1 or 17 tries its steps
+  module _ (w : Lent S) (z : c .refusal (w .state) (length (w .memory)) ≡ 0) where
+    pub step-tries : tries c l Step w ≡ at (c .view (w .state)) (w .memory) ∷ []
+    step-tries = rw z
+
+    pub call-tries : (n : ℕ) → tries c l (Run n) w ≡ runTries n (c .view (w .state)) (w .memory)
+    call-tries n = rw z
+
   -- a resume looks at the step that a step call would take
   pub resume-tries : (w : Lent S) → tries c l Resume w ≡ tries c l Step w
   resume-tries w = refl
@@ -86,6 +94,11 @@ module _ {S : Type 0} (c : Calls S) (l : Layout) where
     pub stands-may : stands c l xs w ≡ true → mayAll l xs ≡ true
     unfolding stands
     stands-may e = both (isExit (stepOf (c .view (w .state)) (w .memory) .number)) (mayAll l xs) e .1
+
+    -- and there it does
+    pub stands-there : isExit (stepOf (c .view (w .state)) (w .memory) .number) ≡ true → mayAll l xs ≡ true → stands c l xs w ≡ true
+    unfolding stands
+    stands-there e m = rw (e, m)
 
     -- one that does not stand changes nothing
     pub falls : stands c l xs w ≡ false → eventOf c l (Change xs) w .left ≡ w
