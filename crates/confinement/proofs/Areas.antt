@@ -1,19 +1,18 @@
 -- The two areas of a lawful module, and what a guard makes of a register: a displacement in its area.
-use Prim.Native.Nat.{ℕ, _+_, _-_, _%_, _^_, _≤_, _<_}
-use mathlib.Core.Path.{_≡_, refl, sym, ap, _∙_, subst}
+use Prim.Native.Nat.{ℕ, _+_, _%_, _^_, _≤_, _<_}
+use mathlib.Core.Path.{_≡_, refl, _∙_, subst}
 use mathlib.Core.Bool.{Bool, true, false, _||_}
 use mathlib.Core.List.{List}
-use native.Mathlib.Nat.{zero-mod, mod-self}
+use native.Mathlib.Nat.{mod-self}
 use native.Mathlib.Omega.{arith}
-use native.Mathlib.Decide.{decLe}
 use lib.Dec.{T, eqb, eqb→eq}
 use lib.Bits.{bitAnd, bitOr, or-comm}
-use lib.Pow.{pow-lt, mod-mod-pow}
 use Rattle.word.proofs.Bits.{mask-le, mask-multiple, or-sum}
 use Rattle.isa.specs.declared.kind.Instruction.{Instruction}
 use Rattle.isa.specs.Class.{classOf}
 use Rattle.isa.proofs.Codes.{every-kind}
 use Rattle.layout.specs.declared.Layout.{Layout}
+use Rattle.layout.proofs.Sizes.{divides}
 use Rattle.checker.specs.Offset.{offsetOf}
 use Rattle.checker.specs.Lawful.{Not, Stands, Accesses, ByRegister, widthOf, Guarded, FitsData, FitsCode, Placed, wordsIn, Lawful}
 
@@ -92,16 +91,6 @@ fits-mask l Code x u v m (p, q) =
 pub fits-below : (l : Layout) (a : Area) (x : Instruction) → Uses a x → (d : ℕ) → Fits l a x d → d < sizeOf l a
 fits-below l Data x u d (o, (z, (p, (q, r)))) = omega (arith, r, width-positive (width-is x u))
 fits-below l Code x u d (p, q) = omega (arith, q)
-
--- what a power of two from 2^k on divides, 2^k divides
-divides : (k n y : ℕ) → (e : ℕ) × (n ≡ 2 ^ e) → 2 ^ k ≤ n → y % n ≡ 0 → y % 2 ^ k ≡ 0
-divides k n y (e, p) h z = elim (decLe k e) [
-  | yes g ↦
-      let q : e ≡ e - k + k = omega arith in
-      let r : y % 2 ^ (e - k + k) ≡ 0 = subst (λ (x : ℕ). y % x ≡ 0) (p ∙ ap (λ (x : ℕ). 2 ^ x) q) z in
-      sym (mod-mod-pow y (e - k) k) ∙ ap (λ (x : ℕ). x % 2 ^ k) r ∙ zero-mod (2 ^ k)
-  | no g ↦ (let f : 2 ^ e < 2 ^ k = pow-lt (omega arith) in absurd (omega (arith, f, p, h)))
-]
 
 -- ---- the areas of a lawful module
 

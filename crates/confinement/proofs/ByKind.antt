@@ -42,7 +42,6 @@ use Rattle.trap.specs.Trap.{trapOf, trapIf}
 use Rattle.system.specs.System.{isUser, systemOf, systemCallOf, breakpointOf, privileged}
 use Rattle.decision.specs.Decision.{byKind, decisionOf}
 use Rattle.view.specs.Guard.{isMask, isMerge}
-use Rattle.machine.specs.Resume.{isServed}
 use Rattle.checker.specs.Lawful.{Not}
 use Rattle.confinement.specs.Demand.{Allowed}
 
@@ -123,8 +122,8 @@ module _ {k : Kind} {i : Instruction} {a : ℕ} {c : Special} {n : ℕ} where
   either t p q = by-test (Obeys k i a c n) t p q
 
   checks : (r : ℕ) (z : ℤ) → Puts k i a c n r → On k i a c n → Idle k → Obeys k i a c n (checked r z)
-  unfolding checked isServed
-  checks r z p o h = either (fitsOf 32 z) (λ _. does (p, o)) (λ _. does (allowed refl h))
+  unfolding checked
+  checks r z p o h = either (fitsOf 32 z) (λ _. does (p, o)) (λ _. does (allowed (inl refl) h))
 
   multiplies : (p : ℕ) → On k i a c n → Obeys k i a c n (product p)
   unfolding product
@@ -135,8 +134,8 @@ module _ {k : Kind} {i : Instruction} {a : ℕ} {c : Special} {n : ℕ} where
   divides d q r o = either (eqb d 0) (λ _. does o) (λ _. does o)
 
   traps : (t : Bool) → On k i a c n → Idle k → Obeys k i a c n (trapIf t)
-  unfolding trapIf isServed
-  traps t o h = either t (λ _. does (allowed refl h)) (λ _. does o)
+  unfolding trapIf
+  traps t o h = either t (λ _. does (allowed (inr (inr (inr refl))) h)) (λ _. does o)
 
   jumps : {e : Effect} → classOf k .flow ≡ Register → Obeys k i a c n e → Obeys k i a c n (jumpIf a e)
   unfolding jumpIf
@@ -264,18 +263,18 @@ module _ (i : Instruction) (a b : ℕ) (c : Special) (n : ℕ) where
   trap-obeys Tnei = traps _ refl (idle refl refl refl refl)
 
   calls : Obeys (K.System Syscall) i a c n (systemCallOf (i .value) (c .status))
-  unfolding systemCallOf isServed
+  unfolding systemCallOf
   calls =
       either (eqb (i .value) 15 && not (isUser (c .status)))
       (λ e. does (kernel (not-true _ (both (eqb (i .value) 15) _ e .1))))
-      (λ _. does (allowed refl (idle refl refl refl refl)))
+      (λ _. does (allowed (inr (inl refl)) (idle refl refl refl refl)))
 
   breaks : Obeys (K.System Break) i a c n (breakpointOf (i .value))
-  unfolding breakpointOf isServed
+  unfolding breakpointOf
   breaks =
       either (eqb (i .value) 15)
       (λ e. does (barred (λ u. u .1 .1 .1 refl (eqb-true _ _ e))))
-      (λ _. does (allowed refl (idle refl refl refl refl)))
+      (λ _. does (allowed (inr (inr (inl refl))) (idle refl refl refl refl)))
 
   system-obeys : (k : System) → Obeys (K.System k) i a c n (systemOf k (i .rt) (i .rd) b (i .value) c)
   system-obeys Syscall = calls

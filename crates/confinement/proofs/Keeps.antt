@@ -38,6 +38,7 @@ use Rattle.checker.specs.Check.{codeOf}
 use Rattle.checker.specs.Lawful.{Not, Stands, flowOf, Lands, wordsIn, Lawful}
 use Rattle.confinement.specs.Events.{isData}
 use Rattle.confinement.specs.Demand.{Allowed, Untouched}
+use Rattle.confinement.proofs.Definitions.{says-true, allowed-says}
 use Rattle.confinement.proofs.ByKind.{Leads, Idle}
 use Rattle.confinement.proofs.Moves.{put-here, Moved, moves}
 use Rattle.confinement.proofs.Parts.{part-same}
@@ -242,15 +243,15 @@ module _ (l : Layout) (len : ℕ) (img : List ℕ) (ok : Lawful l len img) where
 
     -- ---- an exit, and a resume after it
 
-    allowed-exit : {k : ℕ} → Allowed k → Not (k ≡ 0)
+    allowed-exit : (k : ℕ) → Allowed k → Not (k ≡ 0)
     unfolding isServed
-    allowed-exit p z = false≢true (sym (ap isServed z) ∙ p)
+    allowed-exit k p z = false≢true (sym (ap isServed z) ∙ says-true (allowed-says k) p)
 
     -- completed or not, a step stays inside
     pub step-inside : Inside l len img after (stepOf s m .machine .memory)
     step-inside =
         ⊎-elim completed
-        (λ p. subst (λ (o : Machine). Inside l len img (o .state) (o .memory)) (sym (exit-leaves s m (allowed-exit (p .0)))) v)
+        (λ p. subst (λ (o : Machine). Inside l len img (o .state) (o .memory)) (sym (exit-leaves s m (allowed-exit _ (p .0)))) v)
         (exit-is l len img ok s m v)
 
     -- the word at PC is in no guard, and no branch

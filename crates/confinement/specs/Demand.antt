@@ -9,11 +9,11 @@ use Rattle.layout.specs.declared.Layout.{Layout}
 use Rattle.checker.specs.Check.{accepted, checkOf, codeOf}
 use Rattle.checker.specs.Lawful.{Not}
 use Rattle.checker.specs.Refusal.{All}
+use Rattle.effect.specs.Exit.{integerOverflow, systemCall, breakpoint, trap}
 use Rattle.system.specs.System.{isUser}
 use Rattle.machine.specs.State.{registerOf, Bytes}
 use Rattle.machine.specs.Apply.{Machine, Span, span}
 use Rattle.machine.specs.Step.{accessAt, stepOf}
-use Rattle.machine.specs.Resume.{isServed}
 use Rattle.confinement.specs.Events.{Event, isData}
 use Rattle.confinement.specs.Calls.{Lent, Answer, Stepped, Ran, Resumed, Changed, Reply, Calls}
 use Rattle.confinement.specs.Lists.{listOf, listTries}
@@ -22,9 +22,9 @@ use Rattle.confinement.specs.Lists.{listOf, listTries}
 abbrev pub Within : ℕ → ℕ → Span → Type 0
 Within base size x = (base ≤ x .at) × (x .at + x .width ≤ base + size)
 
--- 40, 46, 47 and 48: the exits that demand 3 allows are those that a resume serves
+-- the exits that demand 3 allows: 40, 46, 47 and 48
 abbrev pub Allowed : ℕ → Type 0
-Allowed k = isServed k ≡ true
+Allowed k = (k ≡ integerOverflow) ⊎ ((k ≡ systemCall) ⊎ ((k ≡ breakpoint) ⊎ (k ≡ trap)))
 
 -- ---- the start: a module's image placed unchanged in its code area, in user mode at its first word; all else is arbitrary
 pub record Start {S : Type 0} (c : Calls S) (l : Layout) (len : ℕ) (img : List ℕ) (w : Lent S) : Type 0 where

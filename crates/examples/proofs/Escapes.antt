@@ -1,7 +1,7 @@
 -- What the tables of specs/Escapes say, computed; and no row keeps the confinement of Demand.
 use Prim.Native.Nat.{ℕ}
 use mathlib.Core.Path.{_≡_, refl, sym, ap, _∙_}
-use mathlib.Core.Bool.{Bool, true, false, true≢false, false≢true}
+use mathlib.Core.Bool.{Bool, true, false, true≢false}
 use mathlib.Core.List.{List, [], _∷_, map}
 use lib.ListN.{getD, drop}
 use Rattle.word.specs.Number.{signedOf, extendOf}
@@ -31,6 +31,7 @@ use Rattle.checker.proofs.Says.{Says, holds, fails, eqs, les, ands, ors, saying
 use Rattle.confinement.specs.Calls.{methods}
 use Rattle.confinement.specs.Demand.{Within, Start, Confined, Confinement}
 use Rattle.examples.specs.Escapes.{isWithin, isConfined, Escape, FetchesAt, AccessesAt, Exits, Nothing, firstEscape, Row, imageOf, memoryLength, lentOf, events, triedIn, Finding, found, wanted, escapes, hosts}
+use Rattle.confinement.proofs.Definitions.{allowed-says}
 use Rattle.examples.proofs.Starts.{factsOf, factsDue, starts}
 
 -- ---- the tables
@@ -45,10 +46,6 @@ hosts-found = refl
 
 -- ---- the test of confinement
 
-trues : (b : Bool) → Says (b ≡ true) b
-trues true = holds refl
-trues false = fails false≢true
-
 withins : (base size : ℕ) (x : Span) → Says (Within base size x) (isWithin base size x)
 withins base size x = ands (les _ _) (les _ _)
 
@@ -58,7 +55,7 @@ confined-says l t =
     saying
     (λ h. record { fetch = h .0; access = h .1 .0; exit = h .1 .1 })
     (λ c. (c .fetch, (c .access, c .exit)))
-    (ands (withins _ _ _) (ands (ors (eqs _ _) (withins _ _ _)) (ors (eqs _ _) (trues _))))
+    (ands (withins _ _ _) (ands (ors (eqs _ _) (withins _ _ _)) (ors (eqs _ _) (allowed-says _))))
 
 refutes : {P : Type 0} {b : Bool} → Says P b → b ≡ false → Not P
 refutes (holds p) e q = true≢false e

@@ -1,12 +1,12 @@
--- The lists of specs/Sample. That of M is proved for every memory that holds M: to compute with lists of 196,608 bytes takes half a minute.
+-- The lists of specs/Sample. That of M is proved for every memory that holds M, since lists of 196,608 bytes are slow to compute with.
 use Prim.Native.Nat.{ℕ, zero, suc, _+_, _-_, _^_, _≤_, _<_}
 use mathlib.Core.Path.{_≡_, refl, sym, ap, _∙_}
 use mathlib.Core.Bool.{true, false, cond}
 use mathlib.Core.List.{List, [], _∷_, _++_, map}
 use native.Mathlib.Omega.{arith}
 use lib.Dec.{eqb, leb}
-use lib.ListN.{length, getD, take, drop, set, length-set}
-use lib.Seq.{getD-take, getD-drop, getD-set-other, set-set}
+use lib.ListN.{length, take, drop, set, length-set}
+use lib.Seq.{getD-set-other, set-set}
 use Rattle.word.specs.Number.{signedOf, extendOf}
 use Rattle.word.specs.Bytes.{loadOf, storeOf}
 use Rattle.word.proofs.Memory.{load-store, set-every}
@@ -41,7 +41,7 @@ use Rattle.confinement.specs.Lists.{isExit, stands, eventOf, listOf, at, runTri
 use Rattle.confinement.specs.Demand.{Start, Confinement, Alike, Same}
 use Rattle.examples.specs.Escapes.{imageOf, memoryLength, lentOf, usual}
 use Rattle.examples.specs.Sample.{sampleAt, sampleState, sampleMemory, sampleLent, sampleOther, sampleEvents, shownOf, sampleReplies, sampleTried, overflow, overflowEvents, overflowReplies}
-use Rattle.confinement.proofs.Parts.{part-same}
+use Rattle.confinement.proofs.Parts.{load-part, part-same}
 use Rattle.confinement.proofs.Exported.{inBytes, toBytes, list-bytes, start-encoded}
 use Rattle.confinement.proofs.Whole.{demand-3-methods}
 use Rattle.examples.proofs.Starts.{all-below, between-image, between-length, between-bytes, typed, starts}
@@ -50,23 +50,20 @@ use Rattle.examples.proofs.Starts.{all-below, between-image, between-le
 
 record Holds (m : List ℕ) : Type 0 where
   long : length m ≡ lengthM
-  code : (i : ℕ) → i < 32 → getD m (0x10000 + i) 0 ≡ getD moduleM i 0
+  placed : codeOf layoutM m ≡ moduleM
 
-holds-placed : (m : List ℕ) → length m ≡ lengthM → codeOf layoutM m ≡ moduleM → Holds m
-unfolding codeOf
-holds-placed m e p =
-    record {
-      long = e;
-      code = λ i h.
-          sym (getD-take 32 (drop 0x10000 m) i 0 h ∙ getD-drop 0x10000 m i 0) ∙ ap (λ (l : List ℕ). getD l i 0) p;
-    }
+-- a byte set outside a part leaves it
+set-outside : (m : List ℕ) (a v base size : ℕ) → ((i : ℕ) → i < size → base + i ≡ a → ⊥) → take size (drop base (set m a v)) ≡ take size (drop base m)
+set-outside m a v base size h =
+    part-same (set m a v) m base size (length-set m a v) (λ i l. getD-set-other m a (base + i) v 0 (h i l))
 
 -- a byte set above the code
 holds-set : (m : List ℕ) (a v : ℕ) → 0x10020 ≤ a → Holds m → Holds (set m a v)
+unfolding codeOf
 holds-set m a v h c =
     record {
       long = length-set m a v ∙ c .long;
-      code = λ i l. getD-set-other m a (0x10000 + i) v 0 (λ e. omega arith) ∙ c .code i l;
+      placed = set-outside m a v 0x10000 32 (λ i l e. omega arith) ∙ c .placed;
     }
 
 holds-store : (n : ℕ) (m : List ℕ) (a v : ℕ) → 0x10020 ≤ a → Holds m → Holds (storeOf n m a v)
@@ -74,10 +71,9 @@ holds-store zero m a v h c = c
 holds-store (suc n) m a v h c = holds-store n _ (a + 1) _ (omega arith) (holds-set m a _ h c)
 
 load-code : (m : List ℕ) → Holds m → (n i : ℕ) → i + n ≤ 32 → loadOf n m (0x10000 + i) ≡ loadOf n moduleM i
-load-code m c zero i h = refl
-load-code m c (suc n) i h =
-    let next : 0x10000 + i + 1 ≡ 0x10000 + (i + 1) = omega arith in
-    rw (c .code i (omega arith), next, load-code m c n (i + 1) (omega arith))
+unfolding codeOf
+load-code m c n i h =
+    sym (load-part m 0x10000 32 n i h) ∙ ap (λ (x : List ℕ). loadOf n x i) (c .placed)
 
 -- ---- one step
 
@@ -271,7 +267,7 @@ sample-starts =
     }
 
 holds-sample : Holds sampleMemory
-holds-sample = holds-placed sampleMemory (sample-starts .length-told) (sample-starts .placed)
+holds-sample = record { long = sample-starts .length-told; placed = sample-starts .placed }
 
 pub sample-list : map (shownOf layoutM) (listOf methods layoutM sampleEvents sampleLent) ≡ sampleReplies
 sample-list = ap (map (shownOf layoutM)) (all-reply (does-all sampleMemory holds-sample)) ∙ shown-all sampleMemory holds-sample
@@ -284,16 +280,11 @@ sample-tried = ap (map (λ (t : Machine). t .state .pc)) (all-try (does-all samp
 pub sample-confined : Confinement methods layoutM sampleEvents sampleLent
 sample-confined = demand-3-methods layoutM lengthM moduleM m-accepted sampleLent sample-starts sampleEvents .0
 
--- a byte set outside code and data leaves both
-other-part : (m : List ℕ) (a v base size : ℕ) → ((i : ℕ) → i < size → base + i ≡ a → ⊥) → take size (drop base (set m a v)) ≡ take size (drop base m)
-other-part m a v base size h =
-    part-same (set m a v) m base size (length-set m a v) (λ i l. getD-set-other m a (base + i) v 0 (h i l))
-
 pub other-starts : Start methods layoutM lengthM moduleM sampleOther
 unfolding codeOf
 other-starts =
     record {
-      placed = other-part sampleMemory 0x1FFFF 255 0x10000 32 (λ i l e. omega arith) ∙ sample-starts .placed;
+      placed = set-outside sampleMemory 0x1FFFF 255 0x10000 32 (λ i l e. omega arith) ∙ sample-starts .placed;
       length-told = length-set sampleMemory 0x1FFFF 255 ∙ sample-starts .length-told;
       not-17 = sample-starts .not-17;
       first-word = refl;
@@ -310,7 +301,7 @@ other-alike : Alike layoutM sampleOther sampleLent
 other-alike =
     record {
       same-state = refl;
-      same-data = other-part sampleMemory 0x1FFFF 255 0x20000 64 (λ i l e. omega arith);
+      same-data = set-outside sampleMemory 0x1FFFF 255 0x20000 64 (λ i l e. omega arith);
     }
 
 pub sample-same : Same methods layoutM sampleEvents sampleOther sampleLent
