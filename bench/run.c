@@ -1,29 +1,29 @@
-/* Steps per second of cc100_run and cc100_step and of the same in plain C: medians of interleaved rounds on the same loops.
+/* Steps per second of cc100_run and cc100_step, of the same in plain C and, where it is installed, of Unicorn (QEMU's translator): medians of
+   interleaved rounds on the same loops.
 
-   State and memory lie elsewhere in each round, the same for both, so that lucky and unlucky places average out. */
+   State and memory lie elsewhere in each round, the same for product and plain C, so that lucky and unlucky places average out. */
 #include <stdint.h>
 #include <stdio.h>
 #include <stdlib.h>
 #include <string.h>
 #include <time.h>
 
-#include "plain.h"
+#include "run.h"
 
-#define STEPS 10000000u
+#define TURNS 1000000u /* of a loop */
+#define MOST_STEPS 0xFFFFFFFFu
 #define ROUNDS 21
-#define MEMORY 128
-#define CODE 64 /* bytes; those behind them are data */
 #define ROOM 8192
 
 struct loop {
     const char *name;
-    uint32_t r5, r6, r7;
+    uint32_t r5, r6, r7, r24;
     uint32_t code[CODE / 4];
 };
 
-/* Register 26 holds the data base, 64, and 27 the code base, 0. */
+/* A loop ends, in SYSCALL, when its counter is register 24. Register 26 holds the data base and 27 the code base, 0. */
 static const struct loop loops[] = {
-    {"arithmetic and branches", 1, 2, 3, {
+    {"arithmetic and branches", 1, 2, 3, 1 + TURNS, {
         0x24A50001, /*  0: ADDIU 5,5,1 */
         0x00C53021, /*  4: ADDU 6,6,5 */
         0x00064140, /*  8: SLL 8,6,5 */
@@ -35,11 +35,11 @@ static const struct loop loops[] = {
         0x04C10002, /* 32: BGEZ 6 to 44 */
         0x000640C2, /* 36: SRL 8,6,3 */
         0x00E83821, /* 40: ADDU 7,7,8 */
-        0x14A0FFF4, /* 44: BNE 5,0 to 0 */
+        0x14B8FFF4, /* 44: BNE 5,24 to 0 */
         0x3508000F, /* 48: ORI 8,8,15 */
-        0x08000000, /* 52: J 0 */
+        0x0000000C, /* 52: SYSCALL 0 */
     }},
-    {"guarded loads and stores", 0, 0, 0, {
+    {"guarded loads and stores", 0, 0, 0, TURNS, {
         0x30A8000C, /*  0: ANDI 8,5,12 */
         0x011A4025, /*  4: OR 8,8,26 */
         0x8D090000, /*  8: LW 9,0(8) */
@@ -51,10 +51,11 @@ static const struct loop loops[] = {
         0x30C8000C, /* 32: ANDI 8,6,12 */
         0x011A4025, /* 36: OR 8,8,26 */
         0xAD060000, /* 40: SW 6,0(8) */
-        0x08000000, /* 44: J 0 */
+        0x14B8FFF4, /* 44: BNE 5,24 to 0 */
         0x24E70003, /* 48: ADDIU 7,7,3 */
+        0x0000000C, /* 52: SYSCALL 0 */
     }},
-    {"multiply and divide", 12345, 1103515245, 7, {
+    {"multiply and divide", 12345, 1103515245, 7, 7 + TURNS, {
         0x00A60019, /*  0: MULTU 5,6 */
         0x00002812, /*  4: MFLO 5 */
         0x24A53039, /*  8: ADDIU 5,5,12345 */
@@ -64,20 +65,22 @@ static const struct loop loops[] = {
         0x00004810, /* 24: MFHI 9 */
         0x01090018, /* 28: MULT 8,9 */
         0x00005010, /* 32: MFHI 10 */
-        0x0148001B, /* 36: DIVU 10,8 */
-        0x00005812, /* 40: MFLO 11 */
-        0x08000000, /* 44: J 0 */
-        0x016A6026, /* 48: XOR 12,11,10 */
+        0x35080001, /* 36: ORI 8,8,1, as MIPS does not say what a zero divisor gives */
+        0x0148001B, /* 40: DIVU 10,8 */
+        0x00005812, /* 44: MFLO 11 */
+        0x14F8FFF3, /* 48: BNE 7,24 to 0 */
+        0x016A6026, /* 52: XOR 12,11,10 */
+        0x0000000C, /* 56: SYSCALL 0 */
     }},
-    {"calls and returns", 1, 2, 3, {
+    {"calls and returns", 1, 2, 3, 1 + TURNS, {
         0x24A50001, /*  0: ADDIU 5,5,1 */
         0x00A63826, /*  4: XOR 7,5,6 */
         0x0C000008, /*  8: JAL 32, which links 16 */
         0x00072080, /* 12: SLL 4,7,2 */
         0x00C23021, /* 16: ADDU 6,6,2 */
-        0x08000000, /* 20: J 0 */
+        0x14B8FFFA, /* 20: BNE 5,24 to 0 */
         0x00C73023, /* 24: SUBU 6,6,7 */
-        0x00000000, /* 28: SLL 0,0,0 */
+        0x0000000C, /* 28: SYSCALL 0 */
         0x000410C3, /* 32: SRA 2,4,3 */
         0x00441026, /* 36: XOR 2,2,4 */
         0x0045182B, /* 40: SLTU 3,2,5 */
@@ -88,19 +91,7 @@ static const struct loop loops[] = {
         0x24420007, /* 60: ADDIU 2,2,7 */
     }},
 };
-#define LOOPS (sizeof loops / sizeof loops[0])
-
-/* What a round leaves. */
-struct answer {
-    uint32_t number, steps;
-    uint8_t state[CC100_STATE_LENGTH], memory[MEMORY];
-};
-
-/* Takes STEPS steps on memory, from the state in the answer, which is kept in the room meanwhile. Gives the seconds; the answer but for its
-   memory is what the steps leave. */
-typedef double worker(uint8_t *room, uint8_t *memory, struct answer *a);
-
-static double now(void)
+double now(void)
 {
     struct timespec t;
     clock_gettime(CLOCK_MONOTONIC, &t);
@@ -111,7 +102,7 @@ static double run_product(uint8_t *room, uint8_t *memory, struct answer *a)
 {
     memcpy(room, a->state, CC100_STATE_LENGTH);
     double from = now();
-    cc100_ran ran = cc100_run(room, CC100_STATE_LENGTH, memory, MEMORY, STEPS);
+    cc100_ran ran = cc100_run(room, CC100_STATE_LENGTH, memory, MEMORY, MOST_STEPS);
     double seconds = now() - from;
     memcpy(a->state, room, CC100_STATE_LENGTH);
     a->number = ran.number;
@@ -123,7 +114,7 @@ static double step_product(uint8_t *room, uint8_t *memory, struct answer *a)
 {
     memcpy(room, a->state, CC100_STATE_LENGTH);
     double from = now();
-    while (a->steps < STEPS && (a->number = cc100_step(room, CC100_STATE_LENGTH, memory, MEMORY)) == CC100_DONE)
+    while ((a->number = cc100_step(room, CC100_STATE_LENGTH, memory, MEMORY)) == CC100_DONE)
         a->steps++;
     double seconds = now() - from;
     memcpy(a->state, room, CC100_STATE_LENGTH);
@@ -136,7 +127,7 @@ static double run_plain(uint8_t *room, uint8_t *memory, struct answer *a)
     struct plain_state *s = (struct plain_state *)room;
     *s = plain_state_of(a->state);
     double from = now();
-    a->number = plain_run(s, memory, MEMORY, STEPS, &a->steps);
+    a->number = plain_run(s, memory, MEMORY, MOST_STEPS, &a->steps);
     double seconds = now() - from;
     plain_state_to(s, a->state);
     return seconds;
@@ -147,7 +138,7 @@ static double step_plain(uint8_t *room, uint8_t *memory, struct answer *a)
     struct plain_state *s = (struct plain_state *)room;
     *s = plain_state_of(a->state);
     double from = now();
-    while (a->steps < STEPS && (a->number = plain_step(s, memory, MEMORY)) == CC100_DONE)
+    while ((a->number = plain_step(s, memory, MEMORY)) == CC100_DONE)
         a->steps++;
     double seconds = now() - from;
     plain_state_to(s, a->state);
@@ -162,6 +153,7 @@ static void start(const struct loop *loop, struct answer *a)
     cc100_set_word(a->state + CC100_REGISTER(5), loop->r5);
     cc100_set_word(a->state + CC100_REGISTER(6), loop->r6);
     cc100_set_word(a->state + CC100_REGISTER(7), loop->r7);
+    cc100_set_word(a->state + CC100_REGISTER(24), loop->r24);
     cc100_set_word(a->state + CC100_REGISTER(26), CODE);
     for (uint32_t i = 0; i < CODE; i += 4)
         cc100_set_word(a->memory + i, loop->code[i / 4]);
@@ -170,10 +162,10 @@ static void start(const struct loop *loop, struct answer *a)
 }
 
 /* One round, at places of its own in the two rooms, multiples of 16 as malloc would give. */
-static double timed(worker *work, const struct loop *loop, int round, struct answer *a)
+static double timed(worker *work, const struct loop *loop, size_t round, struct answer *a)
 {
     static uint8_t *states, *memories;
-    size_t place = (size_t)round * 208 % (ROOM / 2), other = (size_t)round * 336 % (ROOM / 2);
+    size_t place = round * 208 % (ROOM / 2), other = round * 336 % (ROOM / 2);
     if (!states && (!(states = malloc(ROOM)) || !(memories = malloc(ROOM)))) {
         perror("memory for the benchmark");
         exit(2);
@@ -191,31 +183,48 @@ static int ascending(const void *a, const void *b)
     return (x > y) - (x < y);
 }
 
-static int compare(const char *what, const struct loop *loop, worker *product, worker *plain)
+/* Whether a worker left something else than the first one, or what no loop leaves: Unicorn does not count its steps. */
+static int differs(const struct answer *first, const struct answer *a)
 {
-    double by_product[ROUNDS], by_plain[ROUNDS];
-    struct answer of_product, of_plain;
+    return memcmp(first->state, a->state, sizeof a->state) != 0 || memcmp(first->memory, a->memory, MEMORY) != 0 ||
+           first->number != a->number || a->number != CC100_EXIT_SYSTEM_CALL || (a->steps != first->steps && a->steps != NOT_COUNTED);
+}
+
+static int compare(const char *what, const struct loop *loop, const struct contender *contenders, size_t count)
+{
+    double seconds[MOST_CONTENDERS][ROUNDS];
+    struct answer answers[MOST_CONTENDERS];
     int wrong = 0;
-    for (int r = 0; r < ROUNDS; r++) {
-        by_product[r] = timed(product, loop, r, &of_product);
-        by_plain[r] = timed(plain, loop, r, &of_plain);
-        /* a loop that exits would have taken fewer steps than are counted here */
-        wrong |= memcmp(&of_product, &of_plain, sizeof of_product) != 0 || of_plain.number != CC100_DONE || of_plain.steps != STEPS;
+    for (size_t turn = 0; turn < ROUNDS * count; turn++) {
+        size_t i = turn % count, round = turn / count;
+        seconds[i][round] = timed(contenders[i].work, loop, round, &answers[i]);
+        wrong |= differs(&answers[0], &answers[i]);
     }
-    qsort(by_product, ROUNDS, sizeof(double), ascending);
-    qsort(by_plain, ROUNDS, sizeof(double), ascending);
-    double a = by_product[ROUNDS / 2], b = by_plain[ROUNDS / 2];
-    printf("%s, %-25s product %6.1f, plain C %6.1f million steps/s, time ratio %.2f%s\n", what, loop->name, STEPS / a / 1e6,
-           STEPS / b / 1e6, a / b, wrong ? "  DIFFERENT ANSWERS" : "");
+    printf("%s, %-25s", what, loop->name);
+    for (size_t i = 0; i < count; i++) {
+        qsort(seconds[i], ROUNDS, sizeof(double), ascending);
+        printf("%s %6.1f, ", contenders[i].name, answers[0].steps / seconds[i][ROUNDS / 2] / 1e6);
+    }
+    printf("million steps/s, time ratio %.2f%s\n", seconds[0][ROUNDS / 2] / seconds[1][ROUNDS / 2], wrong ? "  DIFFERENT ANSWERS" : "");
     return wrong;
 }
 
+#define COUNT(array) (sizeof array / sizeof array[0])
+
 int main(void)
 {
+    static const struct contender runs[] = {
+        {"product", run_product},
+        {"plain C", run_plain},
+#ifdef UNICORN
+        {"Unicorn", run_unicorn},
+#endif
+    };
+    static const struct contender steps[] = {{"product", step_product}, {"plain C", step_plain}};
     int wrong = 0;
-    for (size_t i = 0; i < LOOPS; i++)
-        wrong |= compare("run", &loops[i], run_product, run_plain);
+    for (size_t i = 0; i < COUNT(loops); i++)
+        wrong |= compare("run", &loops[i], runs, COUNT(runs));
     printf("single steps: the product's state is bytes, that of plain C a struct\n");
-    wrong |= compare("step", &loops[0], step_product, step_plain);
+    wrong |= compare("step", &loops[0], steps, COUNT(steps));
     return wrong;
 }

@@ -1,19 +1,23 @@
 /* An example of a host program: checks a report module, runs it and hands it figures.
 
-       host MODULE
+       host MODULE [ROWS]
 
    A module that the checker refuses is not run: this host says the refusal's number and, where it has a place, the word there. One that is
-   accepted, started as below, stays in its own code and data and ends in no exits but Integer Overflow, System Call, Breakpoint and Trap. That
-   is proved of every host that keeps to what cc100.h says of a confined module, as this one does.
+   accepted, started as below, stays in its own code and data and ends in no exits but Integer Overflow, System Call, Breakpoint and Trap.
+   That is proved of every host that keeps to what cc100.h says of a confined module, as this one does.
 
    The convention between this host and its modules: SYSCALL with code 0 asks for the next figure. The host puts the figure's place in the
    data area, a multiple of 4, into register 8 and the figure into register 9, and resumes the module. When a module asks and no figures
    are left, its report is complete, and the host prints the words of the data area.
 
+   A module that works on a table finds it in the data area when it starts: up to four rows of quantity, cost, price and margin, which the
+   host reads from the file ROWS (see rows.h). SYSCALL with code 1 says that the report is complete, with the total of the margins in
+   register 8 and their rate in register 9. The host prints the table and both, or, without ROWS, the words of the data area.
+
    Anything else ends the module. An Integer Overflow, a Breakpoint and a Trap could be resumed, but a report is read for its figures, and
    one that went on past an overflow would lack one without saying so: this host names the exit and its address and stops.
 
-   The exit status is 0 where the report is complete, 1 where it is not, and 2 where there is no module to run. */
+   The exit status is 0 where the report is complete, 1 where it is not, and 2 where there is no module to run, or not the rows for it. */
 #include <errno.h>
 #include <inttypes.h>
 #include <stdbool.h>
@@ -21,6 +25,7 @@
 #include <string.h>
 
 #include "cc100.h"
+#include "rows.h"
 
 #define MEMORY_LENGTH 196608u
 #define CODE_BASE 0x10000u
@@ -29,9 +34,15 @@
 #define DATA_LENGTH 64u
 #define BUDGET 1000000u /* steps, for a module's whole run */
 
-#define NEXT_FIGURE 0u /* the code of the SYSCALL that asks for a figure */
+/* The codes of SYSCALL. */
+#define NEXT_FIGURE 0u
+#define REPORT_COMPLETE 1u
+
+/* What the host hands over for the one, and finds at the other. */
 #define PLACE_REGISTER 8
 #define FIGURE_REGISTER 9
+#define TOTAL_REGISTER 8
+#define RATE_REGISTER 9
 
 /* Prices in cents. */
 static const uint32_t figures[] = {1250, 980, 4999, 315};
@@ -125,12 +136,12 @@ static const char *in_words(uint32_t number)
     }
 }
 
-/* Whether a run ended at a SYSCALL that asks for a figure. The word at PC says which: an exit leaves PC at its instruction. */
-static bool asks_for_figure(const struct machine *m, uint32_t number)
+/* Whether a run ended at the SYSCALL of a code. The word at PC says which: an exit leaves PC at its instruction. */
+static bool calls(const struct machine *m, uint32_t number, uint32_t code)
 {
     if (number != CC100_EXIT_SYSTEM_CALL)
         return false;
-    return cc100_read(cc100_get_word(m->memory + state_word(m, CC100_PC))).value == NEXT_FIGURE;
+    return cc100_read(cc100_get_word(m->memory + state_word(m, CC100_PC))).value == code;
 }
 
 /* Gives resume's number. */
@@ -151,15 +162,29 @@ static void print_data(const struct machine *m)
     printf("\n");
 }
 
-/* Runs the module to its end. Gives the exit status. */
-static int run(struct machine *m)
+static void print_report(const struct machine *m, uint32_t rows)
+{
+    int32_t total = (int32_t)state_word(m, CC100_REGISTER(TOTAL_REGISTER)), rate = (int32_t)state_word(m, CC100_REGISTER(RATE_REGISTER));
+    printf("the report is complete\n");
+    if (rows == 0)
+        print_data(m);
+    else
+        print_rows(m->memory + DATA_BASE, rows, total, rate);
+}
+
+/* Runs the module, which was given so many rows, to its end. Gives the exit status. */
+static int run(struct machine *m, uint32_t rows)
 {
     uint32_t steps = 0, given = 0;
     for (;;) {
         cc100_ran ran = cc100_run(m->state, sizeof m->state, m->memory, sizeof m->memory, BUDGET - steps);
         steps += ran.steps;
         printf("after %" PRIu32 " steps, at 0x%" PRIx32 ": ", steps, state_word(m, CC100_PC));
-        if (!asks_for_figure(m, ran.number)) {
+        if (calls(m, ran.number, REPORT_COMPLETE)) {
+            print_report(m, rows);
+            return 0;
+        }
+        if (!calls(m, ran.number, NEXT_FIGURE)) {
             printf("%s; the host stops it\n", in_words(ran.number));
             return 1;
         }
@@ -179,14 +204,17 @@ static int run(struct machine *m)
 int main(int count, char **arguments)
 {
     static struct machine m;
-    if (count != 2) {
-        fprintf(stderr, "usage: host MODULE\n");
+    if (count != 2 && count != 3) {
+        fprintf(stderr, "usage: host MODULE [ROWS]\n");
         return 2;
     }
     size_t length = load(&m, arguments[1]);
     if (length == 0 || !accepted(&m, arguments[1], length))
         return 2;
+    uint32_t rows = count == 3 ? read_rows(arguments[2], m.memory + DATA_BASE) : 0;
+    if (count == 3 && rows == 0)
+        return 2;
     printf("%zu words of code at 0x%x, %u bytes of data at 0x%x\n", length / 4, CODE_BASE, DATA_LENGTH, DATA_BASE);
     start(&m);
-    return run(&m);
+    return run(&m, rows);
 }

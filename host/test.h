@@ -133,6 +133,7 @@ void test_random(void);
 void test_check(void);
 void test_words(void);
 void test_modules(void);
+void test_margin(void);
 void test_example(const char *program);
 void test_verdict(const char *program);
 

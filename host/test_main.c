@@ -88,6 +88,7 @@ int main(int count, char **arguments)
     test_check();
     test_words();
     test_modules();
+    test_margin();
     test_example(arguments[1]);
     test_verdict(arguments[2]);
     printf("host tests: %lu checks, %lu failed\n", checks, failures);

@@ -1,7 +1,8 @@
 #!/usr/bin/env python3
-"""Makes the cases of crates/steps and, by tests/emulator.py, what they must give.
+"""Makes the cases of crates/steps: those below, and after them the public MIPS vectors of tests/mips.
 
-Run it from anywhere; it writes crates/steps/stdin (256 bytes a case) and crates/steps/stdout (a line a case).
+Run it from anywhere; it writes crates/steps/stdin (256 bytes a case) and, by `make expected`, crates/steps/stdout (a line a case): what the
+cases must give by the emulator in tests/emulator. Of the public vectors that has to be what QEMU gave.
 
 A case is 64 little-endian words: the state's 41 in the order of document 01, the memory's length (0 to 84), the number of steps to take
 (at least 1), and 84 bytes of memory, of which only that length is lent. The steps go on until they are done or one gives a number other
@@ -12,26 +13,26 @@ import random
 import struct
 import sys
 
-sys.dont_write_bytecode = True  # the imports would leave a folder beside the sources
-from emulator import (
-    BAD, BRANCHES, CAUSE, COMBINED, CONSTANTS, CONSTANT_TRAPS, CONTROL, HI, LL, LO, LOADS, LONGEST, NAMES, NEXT,
-    PC, RETURN, SHIFTS, STATUS, STORES, TRAPS, TRIED, USER_MODE, WORD, read, sign_extend, step,
-)
-from make_vectors import FIELDS, ROOT, TABLE, places, random_fields, write
+sys.dont_write_bytecode = True  # the import would leave a folder beside the sources
+from make_vectors import CONTROL, FIELDS, ROOT, TABLE, expected, name_of, places, random_fields, word_of
+from mips import cases as mips
 
-
-def line(raw):
-    """What the program must print for a case."""
-    state, (length, steps), memory = list(struct.unpack("<41I", raw[:164])), struct.unpack("<2I", raw[164:172]), raw[172:]
-    s, m, number = state, memory[:length], 0
-    while steps and not number:
-        number, s, m = step(s, m)
-        steps -= 1
-    text = str(number)
-    text += "".join(" %d=%08x" % (i, s[i]) for i in range(41) if s[i] != state[i])
-    return text + "".join(" m%d=%02x" % (i, m[i]) for i in range(length) if m[i] != memory[i])
-
-
+WORD, USER_MODE = 0xFFFFFFFF, 8
+NAMES = [name for _, name, _ in TABLE]
+COMBINED = ("ADD", "ADDU", "SUB", "SUBU", "AND", "OR", "XOR", "NOR", "SLT", "SLTU")
+CONSTANTS = ("ADDI", "ADDIU", "SLTI", "SLTIU", "ANDI", "ORI", "XORI")
+SHIFTS = ("SLL", "SRL", "SRA")
+TRAPS = ("TEQ", "TNE", "TGE", "TGEU", "TLT", "TLTU")
+CONSTANT_TRAPS = ("TEQI", "TNEI", "TGEI", "TGEIU", "TLTI", "TLTIU")
+LOADS = ("LB", "LBU", "LH", "LHU", "LW", "LL")
+STORES = ("SB", "SH", "SW", "SC")
+# Values of rs with which each is taken and not taken, where rt is 0.
+BRANCHES = {
+    "BEQ": (0, 1), "BNE": (1, 0), "BGEZ": (0, WORD), "BGEZAL": (0, WORD), "BGTZ": (1, 0), "BLEZ": (0, 1),
+    "BLTZ": (WORD, 0), "BLTZAL": (WORD, 0),
+}
+# Places in the state, after the 32 registers.
+HI, LO, PC, NEXT, LL, BAD, STATUS, CAUSE, RETURN = range(32, 41)
 EDGES = (0, 1, 0x7FFFFFFF, 0x80000000, 0xFFFFFFFF)
 VALUES = (0, 1, 0x7FFF, 0x8000, 0xFFFF)
 KERNEL, USER = 0x1555, 0x0AAA
@@ -43,9 +44,7 @@ DATA, BYTES = 40, bytes((0x80, 0x7F, 0xFF, 0x00, 0x01, 0x80, 0xFE, 0xFF))
 def word(name, rs=0, rt=0, rd=0, shift=0, value=0):
     if name not in ("J", "JAL", "SYSCALL", "BREAK"):
         value &= 0xFFFF
-    number, w = write(NAMES.index(name) + 1, rs, rt, rd, shift, value)
-    assert number == 0, name
-    return w
+    return word_of(NAMES.index(name) + 1, rs, rt, rd, shift, value)
 
 
 def fields_of(name):
@@ -71,41 +70,17 @@ def case(*words, at=16, length=84, steps=1, **changes):
 
 
 def marked():
-    """Cases C1 to C8 of document 01 with the answers given there. C8's address is beyond a case's memory; 64 stands for it in the cases."""
-    rows = [
-        ("C1", word("ADD", 5, 6, 7), 0x7FFFFFFF, 1, 40, {}),
-        ("C2", word("ADDU", 5, 6, 7), 0xFFFFFFFF, 1, 0, {7: 0}),
-        ("C3", word("SLTIU", 5, 7, value=0xFFFF), 5, 0, 0, {7: 1}),
-        ("C4", word("SRA", rt=6, rd=7, shift=4), 0, 0x80000000, 0, {7: 0xF8000000}),
-        ("C5", word("MULT", 5, 6), 0xFFFFFFFF, 2, 0, {HI: 0xFFFFFFFF, LO: 0xFFFFFFFE}),
-        ("C6", word("MULTU", 5, 6), 0xFFFFFFFF, 2, 0, {HI: 1, LO: 0xFFFFFFFE}),
-        ("C7", word("DIV", 5, 6), -7, 2, 0, {LO: -3 & WORD, HI: -1 & WORD}),
-        ("C8", 0x1000FFFF, 0, 0, 0, {NEXT: 64}),
+    """Cases C1 to C8 of document 01. C8's address is beyond a case's memory; 64 stands for it."""
+    return [
+        case(word("ADD", 5, 6, 7), r5=0x7FFFFFFF, r6=1),
+        case(word("ADDU", 5, 6, 7), r5=0xFFFFFFFF, r6=1),
+        case(word("SLTIU", 5, 7, value=0xFFFF), r5=5, r6=0),
+        case(word("SRA", rt=6, rd=7, shift=4), r5=0, r6=0x80000000),
+        case(word("MULT", 5, 6), r5=0xFFFFFFFF, r6=2),
+        case(word("MULTU", 5, 6), r5=0xFFFFFFFF, r6=2),
+        case(word("DIV", 5, 6), r5=-7, r6=2),
+        case(0x1000FFFF, at=64, r5=0, r6=0),
     ]
-    made = []
-    for name, w, a, b, number, after in rows:
-        at = 64 if name == "C8" else 16
-        made.append(case(w, at=at, r5=a, r6=b))
-        given = list(struct.unpack("<41I", made[-1][:164]))
-        want = given[:]
-        if number == 0:
-            want[PC], want[NEXT] = at + 4, at + 8
-        for i, value in after.items():
-            want[i] = value
-        got, s, _ = step(given, made[-1][172:])
-        assert (got, s) == (number, want), name
-    state = [0] * 41
-    state[PC], state[NEXT] = 0x100, 0x104
-    assert step(state, bytes(0x100) + struct.pack("<I", 0x1000FFFF))[1][NEXT] == 0x100
-    return made
-
-
-def long_memory():
-    """Memory that is too long fits in no case: the emulator alone is tried."""
-    state = [0] * 41
-    assert step(state, bytes(LONGEST))[0] == 0 and step(state, bytes(LONGEST + 1))[0] == 1
-    state[0] = 1
-    assert step(state, bytes(LONGEST + 1))[0] == 1
 
 
 def register_forms():
@@ -136,7 +111,8 @@ def constant_forms():
 
 def around(value):
     """A constant as it is extended either way, and the registers just below."""
-    return sorted({(x + d) & WORD for x in (value, sign_extend(value)) for d in (-1, 0)})
+    extended = value | 0xFFFF0000 if value & 0x8000 else value
+    return sorted({(x + d) & WORD for x in (value, extended) for d in (-1, 0)})
 
 
 def shift_forms():
@@ -222,8 +198,7 @@ def branches():
         has_rt = "rt" in fields_of(name)
         made += [case(word(name, 5, 6 if has_rt else 0, value=3), r5=a, r6=b) for a, b in pairs]
         w = functools.partial(word, name, 5, 6 if has_rt else 0)
-        for taken in (True, False):
-            a, b = next((a, 0) for a in (0, 1, WORD) if BRANCHES[name](a, 0) == taken)
+        for a, b in [(value, 0) for value in BRANCHES[name]]:
             made += [case(w(value=v), r5=a, r6=b) for v in (0, -1, 0x7FFF, 0x8000)]
             # in a slot: the offset and the link count from PC, not taken goes on from next PC
             made += [case(w(value=v), r5=a, r6=b, next=n) for v in (2, -3) for n in (0, 60, 0xFFFFFFFC)]
@@ -296,11 +271,11 @@ def no_instructions():
     rng = random.Random(101)
     words = [op << 26 | 0x00A60000 for op in range(64)] + [0x00A63800 | funct for funct in range(64)]
     words += [1 << 26 | 5 << 21 | rt << 16 for rt in range(32)] + [16 << 26 | rs << 21 | 12 << 11 for rs in range(32)]
-    made = [case(w) for w in words if not read(w)[0]][::4]
+    made = [case(w) for w in words if not name_of(w)][::4]
     for kind, _, bits in TABLE:
-        w = write(kind, *random_fields(rng, bits))[1]
+        w = word_of(kind, *random_fields(rng, bits))
         # between opcode and function; each such field is whole, so that its ends stand for it
-        bad = [w | 1 << p for p in places(bits, "0") if 6 <= p < 26 and not read(w | 1 << p)[0]]
+        bad = [w | 1 << p for p in places(bits, "0") if 6 <= p < 26 and not name_of(w | 1 << p)]
         made += [case(x) for x in bad[:1] + bad[-1:]]
     words = [0xFFFFFFFF, 0x42000010 | 1 << 6, 0x42000011, 0x42000018, 0x43000010]
     words += [word(name, rt=6, rd=14) | bit for name in ("MFC0", "MTC0") for bit in (1, 32)]
@@ -352,7 +327,7 @@ def random_word(rng):
         fields[4] = rng.choice((0, 1, 2, 3, 4, 8, 16, 0xFFFE, 0xFFFC))
         if name in ("SYNC", "TEQ", "TNE", "TGE", "TGEU", "TLT", "TLTU"):
             fields[4] &= 31
-    w = write(kind, *fields)[1]
+    w = word_of(kind, *fields)
     return w ^ 1 << rng.randrange(32) if rng.random() < 0.03 else w
 
 
@@ -415,15 +390,22 @@ def loops():
     return made
 
 
-def check_tried():
-    """Each kind was completed, where it can be, and gave each exit that it can give; nothing gave another number."""
+def tried(raw, line):
+    """The instruction and the number of a case of one step; no name where the step comes to no instruction."""
+    number, pc = int(line.split()[0]), struct.unpack_from("<I", raw, 4 * PC)[0]
+    return "" if number in (17, 49, 50) else name_of(struct.unpack_from("<I", raw, 172 + pc)[0]), number
+
+
+def check_tried(made, lines):
+    """In the cases of one step each kind is completed, where it can be, and gives each exit that it can; nothing gives another number."""
     own = {"ADD": [40], "ADDI": [40], "SUB": [40], "JR": [41], "JALR": [41], "MFC0": [44], "MTC0": [44], "RFE": [45]}
     own.update({name: [42] for name in LOADS})
     own.update({name: [43] for name in STORES})
     own.update({name: [48] for name in list(TRAPS) + list(CONSTANT_TRAPS)})
     possible = {(name, number) for name in NAMES for number in [0] + own.get(name, [])} - {("SYSCALL", 0), ("BREAK", 0)}
     possible |= {("SYSCALL", 46), ("SYSCALL", 52), ("BREAK", 47), ("BREAK", 51), ("", 17), ("", 49), ("", 50)}
-    assert set(TRIED) == possible, set(TRIED) ^ possible
+    found = {tried(raw, line) for raw, line in zip(made, lines, strict=True) if struct.unpack_from("<I", raw, 168)[0] == 1}
+    assert found == possible, found ^ possible
 
 
 def cases():
@@ -433,12 +415,10 @@ def cases():
 
 
 if __name__ == "__main__":
-    long_memory()
-    made = cases()
-    TRIED.clear()
-    text = "".join(line(raw) + "\n" for raw in made)
-    check_tried()
-    assert all(len(raw) == 256 for raw in made)
-    (ROOT / "crates/steps/stdin").write_bytes(b"".join(made))
-    (ROOT / "crates/steps/stdout").write_text(text)
-    print(len(made), "cases,", sum(TRIED.values()), "steps")
+    made, public = cases(), mips.cases()
+    (ROOT / "crates/steps/stdin").write_bytes(b"".join(made + [raw for raw, _ in public]))
+    expected()
+    lines = (ROOT / "crates/steps/stdout").read_text().splitlines()
+    check_tried(made, lines[:len(made)])
+    assert lines[len(made):] == [line for _, line in public]
+    print(len(made), "cases and", len(public), "public vectors")

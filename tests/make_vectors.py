@@ -1,13 +1,14 @@
 #!/usr/bin/env python3
-"""Makes the cases of crates/vectors and what they must give, from the table of encodings in docs/INSTRUCTIONS.md.
+"""Makes the cases of crates/vectors, from the table of encodings in docs/INSTRUCTIONS.md.
 
-It reads and writes words by the bit patterns of that table alone and shares nothing with the Rattle sources.
-Run it from anywhere; it writes crates/vectors/stdin (28 bytes a case) and crates/vectors/stdout (a line a case).
+Run it from anywhere; it writes crates/vectors/stdin (28 bytes a case) and, by `make expected`, crates/vectors/stdout (a line a case): what
+the cases must give by the emulator in tests/emulator.
 """
 import pathlib
 import random
 import re
 import struct
+import subprocess
 
 ROOT = pathlib.Path(__file__).resolve().parent.parent
 CONTROL = (8, 12, 13, 14)
@@ -37,40 +38,24 @@ def fits(bits, word):
     return "c" not in bits or (word >> 11) & 31 in CONTROL
 
 
-def read(word):
-    """The number and fields of the one pattern that the word fits, or zeros."""
-    found = [(n, bits) for n, _, bits in TABLE if fits(bits, word)]
-    assert len(found) <= 1, hex(word)
-    if not found:
-        return (0,) * 6
-    n, bits = found[0]
-    got = dict.fromkeys(NAMES, 0)
-    for letter, field in FIELDS.items():
-        for p in places(bits, letter):
-            got[field] = got[field] << 1 | (word >> p) & 1
-    return (n,) + tuple(got[f] for f in NAMES)
+def name_of(word):
+    """The instruction's name, or an empty one."""
+    return "".join(name for _, name, bits in TABLE if fits(bits, word))
 
 
-def write(kind, *values):
-    """0 and the word, or 18 and 0."""
-    if not 1 <= kind <= 72:
-        return 18, 0
+def word_of(kind, *values):
+    """The word of a kind with fields that fit it; values of fields that it does not have are 0."""
     bits = TABLE[kind - 1][2]
     left = dict(zip(NAMES, values))
-    word = 0
-    for i, c in enumerate(bits):
-        if c == "1":
-            word |= 1 << (31 - i)
+    word = int("".join("1" if c == "1" else "0" for c in bits), 2)
     for letter, field in FIELDS.items():
         spots = places(bits, letter)
-        if not spots:
-            continue
-        x = left.pop(field)
-        if x >> len(spots) or letter == "c" and x not in CONTROL:
-            return 18, 0
-        for k, p in enumerate(reversed(spots)):
-            word |= ((x >> k) & 1) << p
-    return (18, 0) if any(left.values()) else (0, word)
+        if spots:
+            x = left.pop(field)
+            assert x < 1 << len(spots), (kind, field)
+            word |= sum((x >> k & 1) << p for k, p in enumerate(reversed(spots)))
+    assert not any(left.values()), kind
+    return word
 
 
 def random_fields(rng, bits):
@@ -91,11 +76,11 @@ def cases():
         words += [fixed, ones]
         for _ in range(2):
             fields = random_fields(rng, bits)
-            words.append(write(kind, *fields)[1])
+            words.append(word_of(kind, *fields))
             writes.append([kind] + fields)
         # the neighbours with one fixed zero bit set
         legal = writes[-1]
-        words += [write(*legal)[1] | 1 << p for p in places(bits, "0")]
+        words += [word_of(*legal) | 1 << p for p in places(bits, "0")]
         # each field one too wide, and each field that the kind does not have
         for j, field in enumerate(NAMES):
             size = sum(len(places(bits, letter)) for letter, f in FIELDS.items() if f == field)
@@ -115,18 +100,17 @@ def cases():
     return list(dict.fromkeys(words)), writes
 
 
+def expected():
+    """Writes what the programs must print anew."""
+    subprocess.run(["make", "-s", "-C", ROOT, "expected"], check=True)
+
+
 TABLE = patterns()
 
 if __name__ == "__main__":
     words, writes = cases()
-    raw, text = b"", ""
-    for w in words:
-        raw += struct.pack("<7I", 0, w, 0, 0, 0, 0, 0)
-        text += "read 0x%08x gives %d %d %d %d %d %d\n" % ((w,) + read(w))
-    for c in writes:
-        raw += struct.pack("<7I", 1, *c)
-        text += "write %d %d %d %d %d %d gives %d 0x%08x\n" % (tuple(c) + write(*c))
+    raw = b"".join(struct.pack("<7I", 0, w, 0, 0, 0, 0, 0) for w in words) + b"".join(struct.pack("<7I", 1, *c) for c in writes)
     assert len(raw) <= 65536, len(raw)
     (ROOT / "crates/vectors/stdin").write_bytes(raw)
-    (ROOT / "crates/vectors/stdout").write_text(text)
+    expected()
     print(len(words), "words to read,", len(writes), "instructions to write")

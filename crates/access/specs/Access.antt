@@ -1,4 +1,4 @@
--- Document 004, sections 1.1.5 and 1.1.7: loads and stores. a is GPR[base], b is GPR[rt], n the memory's length.
+-- Document 004, sections 1.1.5 and 1.1.7: loads and stores, each beside its Operation in 1.2. a is GPR[base], b is GPR[rt], n the memory's length.
 use Prim.Native.Nat.{ℕ, _+_, _%_}
 use mathlib.Core.Bool.{Bool, true, false, cond, _&&_}
 use lib.Dec.{eqb, leb}

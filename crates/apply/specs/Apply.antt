@@ -55,7 +55,7 @@ causeOf c v = special (c .hi) (c .lo) (c .pc) (c .«next_pc») (c .ll) (c .bad) 
 abbrev pub epcOf : Special → ℕ → Special
 epcOf c v = special (c .hi) (c .lo) (c .pc) (c .«next_pc») (c .ll) (c .bad) (c .status) (c .cause) v
 
--- ICR[r]; the status keeps bits 0 to 12, writes to the rest are ignored (document 01, Machine)
+-- ICR[r], of 8, 12, 13 and 14; the status keeps bits 0 to 12, writes to the rest are ignored (document 01, Machine)
 unfoldable pub controlledOf : Special → ℕ → ℕ → Special
 controlledOf c r v =
     cond (eqb r 8) (badOf c v) (cond (eqb r 12) (statusOf c (v % 2 ^ 13)) (cond (eqb r 13) (causeOf c v) (epcOf c v)))
@@ -64,7 +64,7 @@ controlledOf c r v =
 unfoldable pub loadedOf : ℕ → Bool → ℕ → ℕ
 loadedOf k signed x = cond signed (extendOf k x) x
 
--- ---- the effects
+-- ---- the effects; LL sets the LL bit wherever it loads, as all memory counts as cacheable data (document 01, Machine)
 
 abbrev pub appliedOf : Effect → List ℕ → Special → List ℕ → Parts
 appliedOf (Exit e) l c m = parts l c m

@@ -1,4 +1,4 @@
--- Document 004, sections 1.1.1 to 1.1.4: one clause for each instruction, beside its Operation. a is GPR[rs], b is GPR[rt].
+-- Document 004, sections 1.1.1 to 1.1.4: one clause for each instruction, beside its Operation in 1.2. a is GPR[rs], b is GPR[rt].
 use Prim.Native.Nat.{ℕ, _+_, _*_, _-_, _%_, _/_, _^_}
 use mathlib.Core.Bool.{Bool, cond}
 use lib.Dec.{eqb, ltb}
@@ -26,7 +26,7 @@ bit t = cond t 1 0
 unfoldable pub checked : ℕ → ℤ → Effect
 checked r z = cond (fitsOf 32 z) (Write r (wrapOf 32 z)) (Exit integerOverflow)
 
--- 1.1.1, 3-operand ALU
+-- 1.1.1, 3-operand ALU; XOR has no exception (document 01, Machine)
 abbrev pub aluOf : Alu → ℕ → ℕ → ℕ → Effect
 aluOf Add rd a b = checked rd (signedOf 32 a +ℤ signedOf 32 b)
 aluOf Addu rd a b = Write rd (sumOf a b)
@@ -50,7 +50,7 @@ immediateOf Ori rt a v = Write rt (bitOr a (v % 2 ^ 16))
 immediateOf Xori rt a v = Write rt (bitXor a (v % 2 ^ 16))
 immediateOf Lui rt a v = Write rt (v % 2 ^ 16 * 2 ^ 16)
 
--- a word shifted by k bits; the arithmetical shift rounds the signed integer down
+-- a word shifted by k bits, SLL and SLLV by their Purpose, as their Operation moves nothing; the arithmetical shift rounds the signed integer down
 unfoldable pub shiftedLeft : ℕ → ℕ → ℕ
 shiftedLeft b k = b * 2 ^ k % 2 ^ 32
 
@@ -73,7 +73,7 @@ shiftOf Srav rd a b sa = Write rd (shiftedSigned b (a % 2 ^ 5))
 unfoldable pub product : ℕ → Effect
 product p = Pair (p / 2 ^ 32) (p % 2 ^ 32)
 
--- HI and LO stay as they are (document 01, Machine)
+-- HI and LO stay as they are (document 01, Machine, of DIV; we read it of DIVU too)
 abbrev pub zeroDivisor : Effect
 zeroDivisor = Advance
 

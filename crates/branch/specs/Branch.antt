@@ -1,4 +1,4 @@
--- Document 004, section 1.1.6: jumps and branches. a is GPR[rs], b is GPR[rt]; pc and next are the two program counters.
+-- Document 004, section 1.1.6: jumps and branches, each beside its Operation in 1.2. a is GPR[rs], b is GPR[rt]; pc and next are the two program counters.
 use Prim.Native.Nat.{ℕ, _+_, _*_, _%_, _/_, _^_}
 use mathlib.Core.Bool.{Bool, cond, not}
 use lib.Dec.{eqb}

@@ -51,7 +51,7 @@ isWordBroken l img n i =
     (cond (eqb n 15) (broken15 l img i (viewAt img i))
     (cond (eqb n 16) (not (isJump (viewAt img i))) false))))))))
 
--- 1 to 7; length is the memory's
+-- 1 to 7; len is the memory's length
 unfoldable pub isFileBroken : Layout → ℕ → List ℕ → ℕ → Bool
 isFileBroken l len img n =
     cond (eqb n 1) (broken1 len)

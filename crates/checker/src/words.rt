@@ -75,7 +75,7 @@ fn word_refusal(layout: Layout, image: &[u8], i: usize, after: bool, v: View) ->
     0
 }
 
-// A plain word breaks no rule and is no branch: it need not be read.
+// A plain word breaks none of 8 to 15 and is no branch: it need not be read.
 fn try_word(layout: Layout, image: &[u8], i: usize, after: bool) -> Tried
     requires { ⌜ Spec.Sized layout (now image) × (4 * i + 4 ≤ length (now image)) ⌝ }
     ensures { λ r. ⌜ r ≡ Spec.triedOf layout (now (image .entry)) i after (Spec.viewAt (now (image .entry)) i) ⌝ }

@@ -1,45 +1,101 @@
 -- Laws of the definitions of lists: that none of them says less than document 01.
-use Prim.Native.Nat.{ℕ, zero, suc, _+_, _≤_, _<_}
+use Prim.Native.Nat.{ℕ, zero, suc, _+_, _^_, _≤_, _<_}
 use mathlib.Core.Path.{_≡_, refl, sym, ap, _∙_}
-use mathlib.Core.Bool.{Bool, true, false, cond}
-use mathlib.Core.Logic.{⊎-elim}
-use mathlib.Core.List.{List, [], _∷_, _++_, map, append-assoc}
+use mathlib.Core.Bool.{Bool, true, false, cond, true≢false}
+use mathlib.Core.Logic.{_⊎_, ⊎-elim}
+use mathlib.Core.List.{List, [], _∷_, _++_, append-assoc}
 use native.Mathlib.Omega.{arith}
 use lib.Dec.{eqb}
-use lib.ListN.{length}
+use lib.ListN.{length, getD}
+use lib.Seq.{getD-set-same, getD-set-other}
 use Rattle.word.proofs.Choice.{both}
 use Rattle.layout.specs.declared.Layout.{Layout}
 use Rattle.machine.specs.declared.state.State.{State}
+use Rattle.machine.specs.State.{registerOf, specialOf}
 use Rattle.machine.specs.Apply.{Machine}
 use Rattle.machine.specs.Step.{accessAt, stepOf}
 use Rattle.machine.specs.Run.{repeatOf}
 use Rattle.machine.specs.Resume.{isServed}
+use Rattle.checker.specs.Lawful.{Not}
 use Rattle.checker.proofs.Says.{Says, holds, fails, eqs, les, lts, ands, ors}
-use Rattle.confinement.specs.Events.{Write, Byte, Event, Step, Run, Resume, Change, isData, isOther, mayWrite}
-use Rattle.confinement.specs.Calls.{Lent, Calls}
+use Rattle.confinement.specs.Events.{Write, Register, Hi, Lo, Byte, Event, Step, Run, Resume, Change, isData, isOther, mayWrite}
+use Rattle.confinement.specs.Calls.{Lent, Calls, putState}
 use Rattle.confinement.specs.Demand.{Allowed, Confined}
-use Rattle.confinement.specs.Lists.{isExit, mayAll, stands, eventOf, listOf, at, runTries, tries, listTries}
-
--- registers 0 to 32: a host may change 1 to 25 and 28 to 31
-pub other-registers : map isOther (0 ∷ 1 ∷ 2 ∷ 25 ∷ 26 ∷ 27 ∷ 28 ∷ 31 ∷ 32 ∷ []) ≡ false ∷ true ∷ true ∷ true ∷ false ∷ false ∷ true ∷ true ∷ false ∷ []
-unfolding isOther
-other-registers = refl
-
--- of memory, data bytes alone
-pub may-data : (l : Layout) (a v : ℕ) → mayWrite l (Byte a v) ≡ true → isData l a ≡ true
-unfolding mayWrite
-may-data l a v e = both (isData l a) _ e .0
-
--- the numbers that end a step: done and refusals are none of them, 40 to 52 are
-pub exit-numbers : map isExit (0 ∷ 1 ∷ 17 ∷ 19 ∷ 39 ∷ 40 ∷ 46 ∷ 52 ∷ []) ≡ false ∷ false ∷ false ∷ false ∷ false ∷ true ∷ true ∷ true ∷ []
-unfolding isExit
-exit-numbers = refl
-
--- ---- a step that is confined
+use Rattle.confinement.specs.Lists.{isExit, mayAll, putByte, putAll, stands, eventOf, listOf, at, runTries, tries, listTries}
 
 pub says-true : {P : Type 0} {b : Bool} → Says P b → P → b ≡ true
 says-true (holds p) q = refl
 says-true (fails n) q = absurd (n q)
+
+itself : (b : Bool) → Says (b ≡ true) b
+itself true = holds refl
+itself false = fails (λ e. true≢false (sym e))
+
+-- ---- what a host may change
+
+-- registers 1 to 25 and 28 to 31
+pub other-registers : (r : ℕ) → Says (((1 ≤ r) × (r ≤ 25)) ⊎ ((28 ≤ r) × (r ≤ 31))) (isOther r)
+unfolding isOther
+other-registers r = ors (ands (les 1 r) (les r 25)) (ands (les 28 r) (les r 31))
+
+module _ (l : Layout) where
+  -- these to any word
+  pub may-register : (r v : ℕ) → Says ((isOther r ≡ true) × (v < 2 ^ 32)) (mayWrite l (Register r v))
+  unfolding mayWrite
+  may-register r v = ands (itself (isOther r)) (lts v (2 ^ 32))
+
+  pub may-hi : (v : ℕ) → Says (v < 2 ^ 32) (mayWrite l (Hi v))
+  unfolding mayWrite
+  may-hi v = lts v (2 ^ 32)
+
+  pub may-lo : (v : ℕ) → Says (v < 2 ^ 32) (mayWrite l (Lo v))
+  unfolding mayWrite
+  may-lo v = lts v (2 ^ 32)
+
+  -- of memory, data bytes alone, to any byte
+  pub may-byte : (a v : ℕ) → Says ((isData l a ≡ true) × (v < 2 ^ 8)) (mayWrite l (Byte a v))
+  unfolding mayWrite
+  may-byte a v = ands (itself (isData l a)) (lts v (2 ^ 8))
+
+  pub data-bytes : (a : ℕ) → Says ((l .«data_base» ≤ a) × (a < l .«data_base» + l .«data_size»)) (isData l a)
+  unfolding isData
+  data-bytes a = ands (les (l .«data_base») a) (lts a (l .«data_base» + l .«data_size»))
+
+-- the numbers that end a step, of which a step has 40 to 52
+pub exit-numbers : (k : ℕ) → Says (40 ≤ k) (isExit k)
+unfolding isExit
+exit-numbers k = les 40 k
+
+-- ---- what a change gives
+
+module _ (s : State) where
+  pub register-put : (r v : ℕ) → r < length (s .registers) → registerOf (putState (Register r v) s .registers) r ≡ v
+  register-put r v h = getD-set-same (s .registers) r v 0 h
+
+  -- to that register alone
+  pub registers-kept : (r v q : ℕ) → Not (q ≡ r) → registerOf (putState (Register r v) s .registers) q ≡ registerOf (s .registers) q
+  registers-kept r v q n = getD-set-other (s .registers) r q v 0 n
+
+  pub special-kept : (r v : ℕ) → specialOf (putState (Register r v) s) ≡ specialOf s
+  special-kept r v = refl
+
+  pub hi-put : (v : ℕ) → (putState (Hi v) s .hi ≡ v) × ((putState (Hi v) s .lo ≡ s .lo) × (putState (Hi v) s .registers ≡ s .registers))
+  hi-put v = (refl, (refl, refl))
+
+  pub lo-put : (v : ℕ) → (putState (Lo v) s .lo ≡ v) × ((putState (Lo v) s .hi ≡ s .hi) × (putState (Lo v) s .registers ≡ s .registers))
+  lo-put v = (refl, (refl, refl))
+
+-- a byte goes to memory and leaves the state
+pub byte-put : (m : List ℕ) (a v : ℕ) → a < length m → getD (putByte (Byte a v) m) a 0 ≡ v
+byte-put m a v h = getD-set-same m a v 0 h
+
+pub bytes-kept : (m : List ℕ) (a v b : ℕ) → Not (b ≡ a) → getD (putByte (Byte a v) m) b 0 ≡ getD m b 0
+bytes-kept m a v b n = getD-set-other m a b v 0 n
+
+pub state-kept : (a v : ℕ) (s : State) → putState (Byte a v) s ≡ s
+state-kept a v s = refl
+
+-- ---- a step that is confined
 
 -- the exits that demand 3 allows are those that a resume serves
 pub allowed-says : (k : ℕ) → Says (Allowed k) (isServed k)
@@ -57,7 +113,7 @@ module _ (l : Layout) (t : Machine) (c : Confined l t) where
   confined-access k h =
       let x = accessAt (t .state) (t .memory) in
       let within : (l .«data_base» ≤ x .at + k) × (x .at + k < l .«data_base» + l .«data_size») = ⊎-elim (λ z. absurd (omega (arith, h, z))) (λ p. (omega (arith, p .0), omega (arith, h, p .1))) (c .access) in
-      says-true (ands (les (l .«data_base») (x .at + k)) (lts (x .at + k) (l .«data_base» + l .«data_size»))) within
+      says-true (data-bytes l (x .at + k)) within
 
 -- ---- runs
 
@@ -86,6 +142,21 @@ run-tries (suc n) s m =
         → length (runTries (suc n) s m) ≡ tried (repeatOf (suc n) s m .number) (repeatOf (suc n) s m .steps)
     by true e h = rw e h
     by false e h = rw (e, e)
+
+-- and the step tried after k others is that of the state that k steps lead to
+pub run-tried : (n k : ℕ) (s : State) (m : List ℕ) (d : Machine) → k < length (runTries n s m) → getD (runTries n s m) k d ≡ repeatOf k s m .machine
+unfolding repeatOf
+run-tried zero k s m d h = absurd (omega (arith, h))
+run-tried (suc n) zero s m d h = refl
+run-tried (suc n) (suc k) s m d h =
+    let t = stepOf s m .machine in
+    by (eqb (stepOf s m .number) 0) refl (run-tried n k (t .state) (t .memory) d) h
+  where
+    by : (u : Bool) → eqb (stepOf s m .number) 0 ≡ u
+        → (k < length (runTries n (stepOf s m .machine .state) (stepOf s m .machine .memory)) → getD (runTries n (stepOf s m .machine .state) (stepOf s m .machine .memory)) k d ≡ repeatOf k (stepOf s m .machine .state) (stepOf s m .machine .memory) .machine)
+        → suc k < length (runTries (suc n) s m) → getD (runTries (suc n) s m) (suc k) d ≡ repeatOf (suc k) s m .machine
+    by true e f q = rw e (f (omega (arith, (rw e at q))))
+    by false e f q = absurd (omega (arith, (rw e at q)))
 
 -- ---- lists
 
@@ -138,6 +209,10 @@ module _ {S : Type 0} (c : Calls S) (l : Layout) where
     pub stands-there : isExit (stepOf (c .view (w .state)) (w .memory) .number) ≡ true → mayAll l xs ≡ true → stands c l xs w ≡ true
     unfolding stands
     stands-there e m = rw (e, m)
+
+    -- one that stands gives its values, in their order
+    pub stood : stands c l xs w ≡ true → eventOf c l (Change xs) w .left ≡ putAll c l xs w
+    stood e = rw e
 
     -- one that does not stand changes nothing
     pub falls : stands c l xs w ≡ false → eventOf c l (Change xs) w .left ≡ w

@@ -21,7 +21,6 @@ use Rattle.confinement.specs.Events.{Write, Register, Hi, Lo, Byte, isDa
 use Rattle.confinement.specs.Calls.{putState}
 use Rattle.confinement.specs.Lists.{putByte}
 use Rattle.confinement.specs.Demand.{Untouched}
-use Rattle.confinement.proofs.Definitions.{may-data}
 
 -- ---- the registers
 
@@ -106,7 +105,7 @@ module _ (l : Layout) where
   put-untouched (Hi v) m e = record { same-length = refl; same-bytes = λ a n. refl }
   put-untouched (Lo v) m e = record { same-length = refl; same-bytes = λ a n. refl }
   put-untouched (Byte b v) m e =
-      let h : isData l b ≡ true = may-data l b v e in
+      let h : isData l b ≡ true = both (isData l b) (ltb v (2 ^ 8)) e .0 in
       record {
         same-length = length-set m b v;
         same-bytes = λ a n. getD-set-other m b a v 0 (λ z. true≢false (sym h ∙ ap (isData l) (sym z) ∙ n));

@@ -1,4 +1,4 @@
--- The instruction set: one line for each of the 72 instructions of document 004, in the groups and the order of its section 1.1.
+-- The instruction set: one line for each of the 72 instructions of document 004, in the groups of its section 1.1.
 -- A line gives the instruction's number, which is its place in section 1.2; the format of its word; and its code in that format, in binary as the drawings have it.
 -- Where section 1.2 has no drawing, format and code are those of the public MIPS II instruction set.
 use Prim.Native.Nat.{ℕ}

@@ -1,4 +1,4 @@
-// The instruction set: words read into instructions and written back, and what kind of instruction each is.
+// The instruction set: its instructions as data, the formats of their words, and what kind of instruction each is.
 pub mod class;
 pub mod format;
 pub mod kind;

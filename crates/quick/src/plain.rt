@@ -1,4 +1,4 @@
-// Plain words: instructions that break no rule, wherever they stand. Most words of a module are plain.
+// Plain words: instructions that break none of 8 to 15, wherever they stand. Most words of a module are plain.
 ghost use mathlib.Core.Path.{_≡_};
 ghost use mathlib.Core.Bool.{true};
 ghost use Rattle.word.specs.Field.{Fit};

@@ -1,4 +1,4 @@
--- Document 004, sections 1.1.8, 1.1.10 and 1.1.11: exceptions, privileged instructions, SYNC. b is GPR[rt].
+-- Document 004, sections 1.1.8, 1.1.10 and 1.1.11: exceptions, privileged instructions, SYNC, each beside its Operation in 1.2. b is GPR[rt].
 use Prim.Native.Nat.{ℕ, _+_, _*_, _%_, _/_, _^_}
 use mathlib.Core.Bool.{Bool, cond, not, _&&_}
 use lib.Dec.{eqb}
@@ -21,14 +21,15 @@ moved k w status = status / 2 ^ k % 2 ^ w / 2 * 2 ^ k
 unfoldable pub restored : ℕ → ℕ
 restored status = moved 0 3 status + (moved 3 3 status + moved 6 7 status)
 
--- ICR[d]
+-- ICR[d]; an instruction names 8, 12, 13 or 14 (document 01, Machine)
 unfoldable pub controlOf : Special → ℕ → ℕ
 controlOf s d = cond (eqb d 8) (s .bad) (cond (eqb d 12) (s .status) (cond (eqb d 13) (s .cause) (s .epc)))
 
--- code 15 does not raise the exception in kernel mode
+-- code 15 does not raise the exception in kernel mode (1.2.58)
 unfoldable pub systemCallOf : ℕ → ℕ → Effect
 systemCallOf code status = cond (eqb code 15 && not (isUser status)) (Exit stopCores) (Exit systemCall)
 
+-- code 15 enters debug mode and raises no exception (1.2.15)
 unfoldable pub breakpointOf : ℕ → Effect
 breakpointOf code = cond (eqb code 15) (Exit debugBreak) (Exit breakpoint)
 

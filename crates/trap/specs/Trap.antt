@@ -1,4 +1,4 @@
--- Document 004, section 1.1.9: traps. a is GPR[rs], b is GPR[rt]; TLTU and TNE compare rs with rt (document 01, Machine).
+-- Document 004, section 1.1.9: traps, each beside its Operation in 1.2. a is GPR[rs], b is GPR[rt]; TLTU and TNE compare rs with rt (document 01, Machine).
 use Prim.Native.Nat.{ℕ}
 use mathlib.Core.Bool.{Bool, cond, not}
 use lib.Dec.{eqb, ltb, leb}
@@ -13,7 +13,7 @@ use Rattle.effect.specs.Exit.{trap}
 unfoldable pub trapIf : Bool → Effect
 trapIf t = cond t (Exit trap) Advance
 
--- the constants of TGEIU and TLTIU too are sign-extended (document 01, Traps for the builder)
+-- the constants of TGEIU and TLTIU too are sign-extended (document 01, Traps for the builder); TEQ, TNE, TEQI and TNEI compare words, which are equal exactly where their signed integers are
 abbrev pub trapOf : Trap → ℕ → ℕ → ℕ → Effect
 trapOf Tge a b v = trapIf (leZ (signedOf 32 b) (signedOf 32 a))
 trapOf Tgeu a b v = trapIf (leb b a)

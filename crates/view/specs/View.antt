@@ -122,7 +122,7 @@ needsGuard v = not (eqb (v .width) 0) || v .register
 abbrev pub isBase : ℕ → Bool
 isBase r = eqb r 26 || eqb r 27
 
--- plain, a name of ours: an instruction that breaks no rule, wherever it stands
+-- plain, a name of ours: an instruction that breaks none of 8 to 15, wherever it stands
 abbrev pub isPlain : View → Bool
 isPlain v =
     v .legal && (not (v .barred) && (not (isBase (v .written)) && (not (v .link) && (eqb (v .width) 0 && not (isBranch v)))))

@@ -1,0 +1,50 @@
+/* A second CC100-C machine, reader, writer and checker, written from documents 004 and 01 alone. It shares nothing with the product:
+   neither its Rattle sources nor its C header. It is meant to be read beside the documents, not to be fast.
+
+   The numbers that it gives are those of document 01: 0 for done, 1 to 19 for refusals, 40 to 52 for exits. */
+#ifndef EMULATOR_H
+#define EMULATOR_H
+
+#include <stddef.h>
+#include <stdint.h>
+
+#define EM_KINDS 72
+#define EM_STATE_LENGTH 164
+#define EM_NO_PLACE 0xFFFFFFFFu
+
+/* An instruction. `kind` is its place in section 1.2 of document 004, 1 to 72; 0 is no instruction. Fields that it does not have are 0.
+   `value` is the constant, offset, jump index, code or stype as it stands in the word. */
+struct em_instruction {
+    uint32_t kind, rs, rt, rd, shift, value;
+};
+
+const char *em_name(uint32_t kind);
+struct em_instruction em_read(uint32_t word);
+uint32_t em_write(struct em_instruction i, uint32_t *word); /* 0, or 18 and the word 0 */
+
+/* The calls, on a state of 164 bytes and on memory. A refusal and an exit leave both as they were. */
+uint32_t em_step(uint8_t *state, size_t state_length, uint8_t *memory, size_t memory_length);
+uint32_t em_run(uint8_t *state, size_t state_length, uint8_t *memory, size_t memory_length, uint32_t budget, uint32_t *steps);
+uint32_t em_resume(uint8_t *state, size_t state_length, const uint8_t *memory, size_t memory_length);
+
+/* What the step of a state tries, as document 01 says under demand 3: the address that it fetches four bytes from, and where its word is an
+   access, the address and the width in bytes; width 0 is no access. */
+struct em_tried {
+    uint32_t fetch, address, width;
+};
+struct em_tried em_tried(const uint8_t *state, const uint8_t *memory, size_t memory_length);
+
+/* A module and where it is to run. */
+struct em_module {
+    uint64_t memory_length;
+    uint32_t code_base, code_size, data_base, data_size;
+    const uint8_t *image;
+    size_t image_length;
+};
+uint32_t em_check(const struct em_module *m, uint32_t *place); /* 0 or the refusal, and its place or EM_NO_PLACE */
+
+/* Every rule of 1 to 16 that the module breaks anywhere, whatever comes before it: bit n is set where rule n is broken. Words are those
+   that lie whole in the image. */
+uint32_t em_broken(const struct em_module *m);
+
+#endif
