@@ -97,6 +97,11 @@ program-test: $(ARCHIVE)
 	@$(CC) $(CFLAGS) -Itests/emulator -o target/tests/program $(PROGRAM) $(EMULATOR) $(ARCHIVE)
 	@target/tests/program tests/program/figures.words
 
+harness: $(ARCHIVE)
+	@mkdir -p target/tests
+	@$(CC) $(CFLAGS) -Ihost -Itests/emulator -o target/tests/harness tests/harness/*.c host/test_drawings.c $(EMULATOR) $(PLAIN) $(ARCHIVE)
+	@target/tests/harness --rounds $(ROUNDS)
+
 bench: $(ARCHIVE)
 	@mkdir -p target/bench
 	@$(CC) $(CFLAGS) -o target/bench/read bench/read.c $(PLAIN) $(ARCHIVE)

@@ -3,6 +3,7 @@
 #define TEST_H
 
 #include "cc100.h"
+#include "drawings.h"
 #include "plain.h"
 
 /* Says what is called next. A check that fails prints it, with what was expected and what came. */
@@ -55,43 +56,6 @@ void expect_resume(struct machine *m, uint32_t number);
 /* Whether a resume is given where a step ends in a number. */
 int resumable(uint32_t number);
 
-/* The same numbers in every run of the tests. */
-uint32_t next_random(void);
-
-/* The drawings of the 72 instructions: the bits that are fixed, and the fields that are not. */
-#define RS 0x03E00000u
-#define RT 0x001F0000u
-#define RD 0x0000F800u
-#define SHIFT 0x000007C0u
-#define CONSTANT 0x0000FFFFu
-#define INDEX 0x03FFFFFFu
-#define CODE 0x03FFFFC0u
-#define TRAP_CODE 0x0000FFC0u
-struct drawing {
-    const char *name;
-    uint32_t fixed, rs, rt, rd, shift, value;
-};
-#define KINDS 72
-extern const struct drawing drawings[KINDS]; /* kind 1 first */
-int control_register(uint32_t kind); /* whether rd names a control register */
-uint32_t random_word_of(uint32_t kind);
-uint32_t word_of(uint32_t kind, uint32_t rs, uint32_t rt, uint32_t rd, uint32_t value); /* fields that the kind does not have are 0 */
-
-/* The numbers of the kinds that the modules of the tests are made of. */
-enum {
-    ANDI = 6, BEQ = 7, BGEZAL = 9, BLTZAL = 13, BNE = 14, BREAK = 15, J = 18, JAL = 19, JALR = 20, JR = 21, LB = 22, LBU = 23, LH = 24,
-    LHU = 25, LL = 26, LW = 28, MFC0 = 29, MTC0 = 32, OR = 38, ORI = 39, RFE = 40, SB = 41, SC = 42, SH = 43, SW = 56
-};
-int access_width(uint32_t kind); /* 0: no access */
-int branches(uint32_t kind);     /* a branch or jump */
-int direct(uint32_t kind);       /* one with its target in the word */
-/* The register that is written, links to 31 aside: rd where the kind has it, else rt, but for stores, branches, traps and products. */
-uint32_t written_by(uint32_t kind, uint32_t rt, uint32_t rd);
-
-/* The registers that hold the bases of the two areas. */
-#define DATA_REGISTER 26u
-#define CODE_REGISTER 27u
-
 /* A module and where it is to run. */
 #define MOST_WORDS 16384
 struct layout {
@@ -110,11 +74,9 @@ void make_quiet(struct module *m, struct layout l);
 void put_guard(struct module *m, uint32_t at, uint32_t r, uint32_t mask, uint32_t base); /* ANDI R,4,mask and OR R,R,base, two words */
 
 /* The module is checked by the calls, as an image and placed, and by plain C: in pages that can only be read, with nothing to touch behind
-   them. Quickly: in pages that could be written too, which takes the system much less time. */
+   them. */
 void expect_verdict(const struct module *m, uint32_t number, uint32_t place);
 void expect_accepted(const struct module *m);
-void expect_quickly(const struct module *m, cc100_verdict expected);
-cc100_verdict plain_verdict(const struct module *m);
 
 /* Room of whole pages between pages that cannot be touched. */
 uint8_t *page(size_t size);
@@ -129,10 +91,8 @@ void test_resume(void);
 void test_lengths(void);
 void test_pages(void);
 void test_cases(void);
-void test_random(void);
 void test_check(void);
 void test_words(void);
-void test_modules(void);
 void test_margin(void);
 void test_example(const char *program);
 void test_verdict(const char *program);

@@ -1,5 +1,5 @@
-/* The drawings of docs/INSTRUCTIONS.md, and words that fit them. */
-#include "test.h"
+/* The drawings of docs/INSTRUCTIONS.md, words that fit them, and what the kinds do. */
+#include "drawings.h"
 
 const struct drawing drawings[KINDS] = {
     {"ADD", 0x00000020, RS, RT, RD, 0, 0},
@@ -90,4 +90,27 @@ uint32_t word_of(uint32_t kind, uint32_t rs, uint32_t rt, uint32_t rd, uint32_t 
 {
     const struct drawing *d = &drawings[kind - 1];
     return d->fixed | (rs << 21 & d->rs) | (rt << 16 & d->rt) | (rd << 11 & d->rd) | (value * (d->value & -d->value) & d->value);
+}
+
+int access_width(uint32_t kind)
+{
+    switch (kind) {
+    case LB: case LBU: case SB: return 1;
+    case LH: case LHU: case SH: return 2;
+    case LW: case SW: case LL: case SC: return 4;
+    default: return 0;
+    }
+}
+
+/* BEQ to BNE are the eight conditional branches, J to JR the four jumps. */
+int branches(uint32_t kind) { return (kind >= BEQ && kind <= BNE) || (kind >= J && kind <= JR); }
+int direct(uint32_t kind) { return branches(kind) && kind != JR && kind != JALR; }
+
+uint32_t written_by(uint32_t kind, uint32_t rt, uint32_t rd)
+{
+    const struct drawing *d = &drawings[kind - 1];
+    int store = kind == SB || kind == SH || kind == SW;
+    if (d->rd)
+        return rd;
+    return d->value == CONSTANT && d->rt && !store && !branches(kind) ? rt : 0;
 }

@@ -7,29 +7,6 @@
 
 const struct layout usual = {196608, 0x10000, 32, 0x20000, 64};
 
-int access_width(uint32_t kind)
-{
-    switch (kind) {
-    case LB: case LBU: case SB: return 1;
-    case LH: case LHU: case SH: return 2;
-    case LW: case SW: case LL: case SC: return 4;
-    default: return 0;
-    }
-}
-
-/* BEQ to BNE are the eight conditional branches, J to JR the four jumps. */
-int branches(uint32_t kind) { return (kind >= BEQ && kind <= BNE) || (kind >= J && kind <= JR); }
-int direct(uint32_t kind) { return branches(kind) && kind != JR && kind != JALR; }
-
-uint32_t written_by(uint32_t kind, uint32_t rt, uint32_t rd)
-{
-    const struct drawing *d = &drawings[kind - 1];
-    int store = kind == SB || kind == SH || kind == SW;
-    if (d->rd)
-        return rd;
-    return d->value == CONSTANT && d->rt && !store && !branches(kind) ? rt : 0;
-}
-
 void make_quiet(struct module *m, struct layout l)
 {
     m->layout = l;
@@ -60,7 +37,6 @@ static void expect_same(const char *number_of, const char *place_of, cc100_verdi
 struct room {
     uint8_t *bytes;
     size_t size;
-    int closed;
 };
 
 static void open_room(struct room *r, size_t length)
@@ -70,26 +46,19 @@ static void open_room(struct room *r, size_t length)
         r->size = (length + size - 1) / size * size;
         r->bytes = page(r->size);
     }
-    if (r->closed)
-        mprotect(r->bytes, r->size, PROT_READ | PROT_WRITE);
-    r->closed = 0;
+    mprotect(r->bytes, r->size, PROT_READ | PROT_WRITE);
 }
 
-static void close_room(struct room *r)
-{
-    mprotect(r->bytes, r->size, PROT_READ);
-    r->closed = 1;
-}
+static void close_room(struct room *r) { mprotect(r->bytes, r->size, PROT_READ); }
 
-static void check_image(const struct module *m, cc100_verdict expected, int closed)
+static void check_image(const struct module *m, cc100_verdict expected)
 {
     static struct room room;
     const struct layout *l = &m->layout;
     open_room(&room, sizeof m->words);
     uint8_t *image = room.bytes + room.size - m->length;
     write_image(m, image);
-    if (closed)
-        close_room(&room);
+    close_room(&room);
     expect_same("number of cc100_check", "place of cc100_check", expected,
                 cc100_check(l->memory_length, l->code_base, l->code_size, l->data_base, l->data_size, image, m->length));
     expect_same("number of plain_check", "place of plain_check", expected,
@@ -97,7 +66,7 @@ static void check_image(const struct module *m, cc100_verdict expected, int clos
 }
 
 /* What else is in memory is what other modules left there. A layout that is refused may have its code area outside memory. */
-static void check_placed(const struct module *m, cc100_verdict expected, int closed)
+static void check_placed(const struct module *m, cc100_verdict expected)
 {
     static struct room room;
     const struct layout *l = &m->layout;
@@ -105,34 +74,18 @@ static void check_placed(const struct module *m, cc100_verdict expected, int clo
     uint8_t *memory = room.bytes + room.size - l->memory_length;
     if (l->code_base + (uint64_t)m->length <= l->memory_length)
         write_image(m, memory + l->code_base);
-    if (closed)
-        close_room(&room);
+    close_room(&room);
     expect_same("number of cc100_check_placed", "place of cc100_check_placed", expected,
                 cc100_check_placed(l->code_base, l->code_size, l->data_base, l->data_size, memory, (size_t)l->memory_length));
 }
 
 /* An image of another length than the code area cannot be placed: that area's bytes would be the image. */
-static void check_both(const struct module *m, cc100_verdict expected, int closed)
-{
-    check_image(m, expected, closed);
-    if (m->layout.memory_length <= CC100_LONGEST_MEMORY + 1 && expected.number != CC100_REFUSED_IMAGE_LENGTH)
-        check_placed(m, expected, closed);
-}
-
 void expect_verdict(const struct module *m, uint32_t number, uint32_t place)
 {
     cc100_verdict expected = {number, place};
-    check_both(m, expected, 1);
+    check_image(m, expected);
+    if (m->layout.memory_length <= CC100_LONGEST_MEMORY + 1 && number != CC100_REFUSED_IMAGE_LENGTH)
+        check_placed(m, expected);
 }
 
 void expect_accepted(const struct module *m) { expect_verdict(m, CC100_DONE, CC100_NO_PLACE); }
-
-void expect_quickly(const struct module *m, cc100_verdict expected) { check_both(m, expected, 0); }
-
-cc100_verdict plain_verdict(const struct module *m)
-{
-    static uint8_t image[sizeof m->words];
-    const struct layout *l = &m->layout;
-    write_image(m, image);
-    return plain_check(l->memory_length, l->code_base, l->code_size, l->data_base, l->data_size, image, m->length);
-}

@@ -84,10 +84,8 @@ int main(int count, char **arguments)
     test_lengths();
     test_pages();
     test_cases();
-    test_random();
     test_check();
     test_words();
-    test_modules();
     test_margin();
     test_example(arguments[1]);
     test_verdict(arguments[2]);
