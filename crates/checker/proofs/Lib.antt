@@ -1,5 +1,3 @@
-pub mod Guards
-pub mod Targets
 pub mod Scan
 pub mod Says
 pub mod Reflection

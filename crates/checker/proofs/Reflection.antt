@@ -17,10 +17,10 @@ use Rattle.isa.specs.declared.kind.System.the-variants.{Break, Rfe, Mfc0, Mtc0}
 use Rattle.isa.specs.declared.kind.Kind.{Kind}
 use Rattle.isa.specs.declared.kind.Kind.the-variants as K
 use Rattle.isa.specs.declared.kind.Instruction.{Instruction}
-use Rattle.isa.specs.declared.class.Flow.{Flow}
-use Rattle.isa.specs.declared.class.Flow.the-variants.{Onward, Relative, Region, Register}
+use Rattle.class.specs.declared.Flow.{Flow}
+use Rattle.class.specs.declared.Flow.the-variants.{Onward, Relative, Region, Register}
 use Rattle.isa.specs.declared.reading.Reading.{Reading}
-use Rattle.isa.specs.Class.{classOf}
+use Rattle.class.specs.Class.{classOf}
 use Rattle.isa.specs.Table.{instructions}
 use Rattle.isa.specs.Reading.{readOf}
 use Rattle.isa.proofs.Codes.{keyOf, every}
@@ -33,10 +33,11 @@ use Rattle.view.specs.View.{isBarred, isRelative, isRegion, isRegister, nothing
 use Rattle.view.specs.Guard as G
 use Rattle.view.specs.Guard.{isMask, isMerge, valueIn, isMaskOf, maskIn, isMergeOf}
 use Rattle.checker.specs.declared.verdict.Verdict.{Verdict}
-use Rattle.checker.specs.Rules as C
+use Rattle.rules.specs.Rules as C
 use Rattle.checker.specs.Check.{isWordBroken, isFileBroken, isBroken}
 use Rattle.checker.specs.Lawful as L
-use Rattle.checker.specs.Lawful.{Not, Stands, widthOf, flowOf}
+use Rattle.rules.specs.Not.{Not}
+use Rattle.checker.specs.Lawful.{Stands, widthOf, flowOf}
 use Rattle.checker.specs.Refusal.{FileRule, WordRule, Keeps}
 use Rattle.checker.proofs.Says.{Says, holds, fails, Denies, keeps, eqs, les, lts, ands, ors, nots, imps, both, lacks, bars, spares, picks, saying, denying, every-reading, some-reading}
 

@@ -17,9 +17,10 @@ use Rattle.quick.specs.Plain.{PlainWord}
 use Rattle.word.proofs.Choice.{both}
 use Rattle.checker.specs.declared.verdict.Verdict.{Verdict}
 use Rattle.checker.specs.declared.words.Tried.{Tried}
-use Rattle.checker.specs.Rules.{Sized, wordAt, viewAt, viewBefore, broken10, broken11, broken12, broken13, broken14, broken15, wordRefusal, triedOf}
+use Rattle.rules.specs.Rules.{Sized, wordAt, viewAt, viewBefore, broken10, broken11, broken12, broken13, broken14, broken15}
+use Rattle.checker.specs.Scan.{wordRefusal, triedOf}
 use Rattle.checker.specs.Check.{verdict, noPlace, accepted, wordTrials, isWordBroken, isFileBroken, isBroken, firstOf, wordsVerdict, checkOf, codeOf, placedOf}
-use Rattle.checker.specs.Lawful.{Not}
+use Rattle.rules.specs.Not.{Not}
 
 -- ---- the word before
 

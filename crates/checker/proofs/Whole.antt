@@ -9,7 +9,8 @@ use Rattle.word.proofs.Choice.{by-test}
 use Rattle.layout.specs.declared.Layout.{Layout}
 use Rattle.checker.specs.declared.verdict.Verdict.{Verdict}
 use Rattle.checker.specs.Check.{verdict, noPlace, accepted, wordTrials, trialsOf, isBroken, firstOf, checkOf}
-use Rattle.checker.specs.Lawful.{Not, Lawful, wordsIn}
+use Rattle.rules.specs.Not.{Not}
+use Rattle.checker.specs.Lawful.{Lawful, wordsIn}
 use Rattle.checker.specs.Refusal.{Keeps, All, Refusal}
 use Rattle.checker.proofs.Says.{Denies, breaks, keeps, passes, stops}
 use Rattle.checker.proofs.Reflection.{rule-tests}

@@ -8,7 +8,7 @@ use Rattle.view.specs.View.{isBranch, isJump}
 use Rattle.layout.specs.declared.Layout.{Layout}
 use Rattle.layout.specs.Layout.{broken1, broken2, broken3, broken4, broken5, broken6}
 use Rattle.checker.specs.declared.verdict.Verdict.{Verdict}
-use Rattle.checker.specs.Rules.{viewAt, viewBefore, broken10, broken11, broken12, broken13, broken14, broken15}
+use Rattle.rules.specs.Rules.{viewAt, viewBefore, broken10, broken11, broken12, broken13, broken14, broken15}
 
 -- a rule's number and the place where it is tried; what a refusal hands back
 abbrev pub verdict : ℕ → ℕ → Verdict

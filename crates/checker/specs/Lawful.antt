@@ -13,17 +13,15 @@ use Rattle.isa.specs.declared.kind.Branch.the-variants.{Jalr}
 use Rattle.isa.specs.declared.kind.System.the-variants.{Break, Rfe, Mfc0, Mtc0}
 use Rattle.isa.specs.declared.kind.Kind.the-variants as K
 use Rattle.isa.specs.declared.kind.Instruction.{Instruction}
-use Rattle.isa.specs.declared.class.Flow.{Flow}
-use Rattle.isa.specs.declared.class.Flow.the-variants.{Onward, Relative, Region, Register}
+use Rattle.class.specs.declared.Flow.{Flow}
+use Rattle.class.specs.declared.Flow.the-variants.{Onward, Relative, Region, Register}
 use Rattle.isa.specs.declared.reading.Reading.the-variants.{Legal}
-use Rattle.isa.specs.Class.{classOf, registerWritten}
+use Rattle.class.specs.Class.{classOf, registerWritten}
 use Rattle.isa.specs.Reading.{readOf}
 use Rattle.layout.specs.declared.Layout.{Layout}
 use Rattle.branch.specs.Branch.{relativeOf, regionOf}
-use Rattle.checker.specs.Offset.{offsetOf}
-
-abbrev pub Not : Type 0 → Type 0
-Not P = P → ⊥
+use Rattle.rules.specs.Not.{Not}
+use Rattle.rules.specs.Offset.{offsetOf}
 
 -- ---- the layout
 

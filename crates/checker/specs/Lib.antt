@@ -1,5 +1,4 @@
-pub mod Offset
-pub mod Rules
+pub mod Scan
 pub mod Check
 pub mod Lawful
 pub mod Refusal

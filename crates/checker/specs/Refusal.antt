@@ -9,7 +9,8 @@ use Rattle.word.specs.Bytes.{longest}
 use Rattle.layout.specs.declared.Layout.{Layout}
 use Rattle.checker.specs.declared.verdict.Verdict.{Verdict}
 use Rattle.checker.specs.Check.{trialsOf}
-use Rattle.checker.specs.Lawful.{Not, Power, Placed, Apart, Rule8, Rule9, Rule10, Rule11, Rule12, Rule13, Rule14, Rule15, Rule16}
+use Rattle.rules.specs.Not.{Not}
+use Rattle.checker.specs.Lawful.{Power, Placed, Apart, Rule8, Rule9, Rule10, Rule11, Rule12, Rule13, Rule14, Rule15, Rule16}
 
 abbrev pub pick : Bool → Type 0 → Type 0 → Type 0
 pick true P Q = P

@@ -1,16 +1,17 @@
-// The rules of words, 8 to 15, and the words of an image in their order.
+// The words of an image in their order, each tried with 8 to 15.
 ghost use mathlib.Core.Path.{_≡_};
 ghost use Prim.Native.Nat.{_+_, _*_, _/_, _≤_};
 ghost use lib.ListN.{length};
-ghost use Rattle.view.specs.View.{isBranch};
-ghost use Rattle.checker.specs.Rules as Spec;
+ghost use Rattle.rules.specs.Rules.{Sized, viewAt};
+ghost use Rattle.checker.specs.Scan as Spec;
 ghost use Rattle.checker.specs.Check.{wordsVerdict};
-use crate::guard;
-use crate::image;
-use crate::landing;
 use crate::verdict;
 use crate::verdict::Verdict;
 use layout::Layout;
+use rules::guard;
+use rules::image;
+use rules::landing;
+use rules::single;
 use view::View;
 
 // What a word gave: the first rule that it breaks or 0, and whether it is a branch or jump.
@@ -19,33 +20,9 @@ pub struct Tried {
     pub branch: bool,
 }
 
-fn breaks10(v: View) -> bool
-    ensures { λ r. ⌜ r ≡ Spec.broken10 v ⌝ }
-{
-    (v.written == 26) | (v.written == 27)
-}
-
-fn breaks11(v: View) -> bool
-    ensures { λ r. ⌜ r ≡ Spec.broken11 v ⌝ }
-{
-    v.link & ((v.register & (v.rd == v.rs)) | (v.relative & (v.rs == 31)))
-}
-
-fn is_branch(v: View) -> bool
-    ensures { λ r. ⌜ r ≡ isBranch v ⌝ }
-{
-    v.relative | (v.region | v.register)
-}
-
-fn breaks14(after: bool, v: View) -> bool
-    ensures { λ r. ⌜ r ≡ Spec.broken14 after v ⌝ }
-{
-    is_branch(v) & after
-}
-
 // v is the view of word i, and after says whether the word before it is a branch or jump.
 fn word_refusal(layout: Layout, image: &[u8], i: usize, after: bool, v: View) -> u32
-    requires { ⌜ Spec.Sized layout (now image) × (4 * i + 4 ≤ length (now image)) ⌝ }
+    requires { ⌜ Sized layout (now image) × (4 * i + 4 ≤ length (now image)) ⌝ }
     ensures { λ r. ⌜ r ≡ Spec.wordRefusal layout (now (image .entry)) i after v ⌝ }
 {
     if !v.legal {
@@ -54,10 +31,10 @@ fn word_refusal(layout: Layout, image: &[u8], i: usize, after: bool, v: View) ->
     if v.barred {
         return 9;
     }
-    if breaks10(v) {
+    if single::breaks10(v) {
         return 10;
     }
-    if breaks11(v) {
+    if single::breaks11(v) {
         return 11;
     }
     if guard::breaks12(layout.data_size, image, i, v) {
@@ -66,7 +43,7 @@ fn word_refusal(layout: Layout, image: &[u8], i: usize, after: bool, v: View) ->
     if guard::breaks13(layout.code_size, image, i, v) {
         return 13;
     }
-    if breaks14(after, v) {
+    if single::breaks14(after, v) {
         return 14;
     }
     if landing::breaks15(layout, image, i, v) {
@@ -77,8 +54,8 @@ fn word_refusal(layout: Layout, image: &[u8], i: usize, after: bool, v: View) ->
 
 // A plain word breaks none of 8 to 15 and is no branch: it need not be read.
 fn try_word(layout: Layout, image: &[u8], i: usize, after: bool) -> Tried
-    requires { ⌜ Spec.Sized layout (now image) × (4 * i + 4 ≤ length (now image)) ⌝ }
-    ensures { λ r. ⌜ r ≡ Spec.triedOf layout (now (image .entry)) i after (Spec.viewAt (now (image .entry)) i) ⌝ }
+    requires { ⌜ Sized layout (now image) × (4 * i + 4 ≤ length (now image)) ⌝ }
+    ensures { λ r. ⌜ r ≡ Spec.triedOf layout (now (image .entry)) i after (viewAt (now (image .entry)) i) ⌝ }
 {
     let w = image::word_at(image, i);
     if quick::plain::is_plain(w) {
@@ -91,13 +68,13 @@ fn try_word(layout: Layout, image: &[u8], i: usize, after: bool) -> Tried
     let number = word_refusal(layout, image, i, after, v);
     Tried {
         number,
-        branch: is_branch(v),
+        branch: single::is_branch(v),
     }
 }
 
 // The words from index 0, each with 8 to 15; then 16.
 pub(crate) fn words_verdict(layout: Layout, image: &[u8]) -> Verdict
-    requires { ⌜ Spec.Sized layout (now image) ⌝ }
+    requires { ⌜ Sized layout (now image) ⌝ }
     ensures { λ r. ⌜ r ≡ wordsVerdict layout (now (image .entry)) (layout .«code_size» / 4) 0 ⌝ }
 {
     let n = image.len() / 4;

@@ -9,12 +9,13 @@ use lib.Dec.{T, eqb, eqb→eq}
 use lib.Bits.{bitAnd, bitOr, or-comm}
 use Rattle.word.proofs.Bits.{mask-le, mask-multiple, or-sum}
 use Rattle.isa.specs.declared.kind.Instruction.{Instruction}
-use Rattle.isa.specs.Class.{classOf}
+use Rattle.class.specs.Class.{classOf}
 use Rattle.isa.proofs.Codes.{every-kind}
 use Rattle.layout.specs.declared.Layout.{Layout}
 use Rattle.layout.proofs.Sizes.{divides}
-use Rattle.checker.specs.Offset.{offsetOf}
-use Rattle.checker.specs.Lawful.{Not, Stands, Accesses, ByRegister, widthOf, Guarded, FitsData, FitsCode, Placed, wordsIn, Lawful}
+use Rattle.rules.specs.Offset.{offsetOf}
+use Rattle.rules.specs.Not.{Not}
+use Rattle.checker.specs.Lawful.{Stands, Accesses, ByRegister, widthOf, Guarded, FitsData, FitsCode, Placed, wordsIn, Lawful}
 
 pub data Area : Type 0 where
   Data : Area

@@ -28,9 +28,9 @@ use Rattle.isa.specs.declared.kind.System.the-variants.{Syscall, Break, Rfe, Mf
 use Rattle.isa.specs.declared.kind.Kind.{Kind}
 use Rattle.isa.specs.declared.kind.Kind.the-variants as K
 use Rattle.isa.specs.declared.kind.Instruction.{Instruction}
-use Rattle.isa.specs.declared.class.Flow.{Flow}
-use Rattle.isa.specs.declared.class.Flow.the-variants.{Onward, Relative, Region, Register}
-use Rattle.isa.specs.Class.{classOf, named}
+use Rattle.class.specs.declared.Flow.{Flow}
+use Rattle.class.specs.declared.Flow.the-variants.{Onward, Relative, Region, Register}
+use Rattle.class.specs.Class.{classOf, named}
 use Rattle.effect.specs.declared.effect.Special.{Special}
 use Rattle.effect.specs.declared.effect.Effect.{Effect}
 use Rattle.effect.specs.declared.effect.Effect.the-variants.{Exit, Advance, Write, Pair, Jump, Link, LoadByte, LoadHalf, LoadWord, LoadLinked, StoreByte, StoreHalf, StoreWord, StoreLinked, Control, Return}
@@ -42,7 +42,7 @@ use Rattle.trap.specs.Trap.{trapOf, trapIf}
 use Rattle.system.specs.System.{isUser, systemOf, systemCallOf, breakpointOf, privileged}
 use Rattle.decision.specs.Decision.{byKind, decisionOf}
 use Rattle.view.specs.Guard.{isMask, isMerge}
-use Rattle.checker.specs.Lawful.{Not}
+use Rattle.rules.specs.Not.{Not}
 use Rattle.confinement.specs.Demand.{Allowed}
 
 -- ---- what matters of an effect

@@ -16,7 +16,7 @@ use Rattle.machine.specs.Apply.{Machine}
 use Rattle.machine.specs.Step.{accessAt, stepOf}
 use Rattle.machine.specs.Run.{repeatOf}
 use Rattle.machine.specs.Resume.{isServed}
-use Rattle.checker.specs.Lawful.{Not}
+use Rattle.rules.specs.Not.{Not}
 use Rattle.checker.proofs.Says.{Says, holds, fails, eqs, les, lts, ands, ors}
 use Rattle.confinement.specs.Events.{Write, Register, Hi, Lo, Byte, Event, Step, Run, Resume, Change, isData, isOther, mayWrite}
 use Rattle.confinement.specs.Calls.{Lent, Calls, putState}

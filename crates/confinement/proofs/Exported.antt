@@ -11,7 +11,7 @@ use borrow.Author.Tests.{le-ltb}
 use Rattle.word.specs.Bytes.{longest, storeOf}
 use Rattle.word.proofs.Choice.{both}
 use Rattle.layout.specs.declared.Layout.{Layout}
-use Rattle.checker.specs.Lawful.{Not}
+use Rattle.rules.specs.Not.{Not}
 use Rattle.checker.specs.Refusal.{All}
 use Rattle.checker.proofs.Whole.{accepted-lawful}
 use Rattle.machine.specs.declared.state.State.{State}

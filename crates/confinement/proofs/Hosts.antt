@@ -11,7 +11,7 @@ use borrow.Author.Tests.{leb-true, ltb-true}
 use Rattle.word.proofs.Choice.{both}
 use Rattle.word.proofs.Memory.{set-every}
 use Rattle.layout.specs.declared.Layout.{Layout}
-use Rattle.checker.specs.Lawful.{Not}
+use Rattle.rules.specs.Not.{Not}
 use Rattle.effect.specs.Sound.{Word}
 use Rattle.machine.specs.declared.state.State.{State}
 use Rattle.machine.specs.State.{registerOf, specialOf, joinOf, isLawful, Typed, Bytes}

@@ -14,9 +14,9 @@ use Rattle.isa.specs.declared.kind.Immediate.the-variants.{Andi}
 use Rattle.isa.specs.declared.kind.Kind.{Kind}
 use Rattle.isa.specs.declared.kind.Kind.the-variants as K
 use Rattle.isa.specs.declared.kind.Instruction.{Instruction}
-use Rattle.isa.specs.declared.class.Flow.{Flow}
-use Rattle.isa.specs.declared.class.Flow.the-variants.{Onward, Relative, Region, Register}
-use Rattle.isa.specs.Class.{registerWritten}
+use Rattle.class.specs.declared.Flow.{Flow}
+use Rattle.class.specs.declared.Flow.the-variants.{Onward, Relative, Region, Register}
+use Rattle.class.specs.Class.{registerWritten}
 use Rattle.effect.specs.declared.effect.Effect.{Effect}
 use Rattle.effect.specs.declared.effect.Effect.the-variants.{Write}
 use Rattle.effect.specs.Sound.{Aligned}
@@ -35,7 +35,8 @@ use Rattle.machine.specs.Resume.{isServed, resumedOf}
 use Rattle.machine.proofs.Valid.{advance-regular, linked-regular}
 use Rattle.machine.proofs.Steps.{exit-leaves, effect-sound, step-valid, step-bytes, step-length}
 use Rattle.checker.specs.Check.{codeOf}
-use Rattle.checker.specs.Lawful.{Not, Stands, flowOf, Lands, wordsIn, Lawful}
+use Rattle.rules.specs.Not.{Not}
+use Rattle.checker.specs.Lawful.{Stands, flowOf, Lands, wordsIn, Lawful}
 use Rattle.confinement.specs.Events.{isData}
 use Rattle.confinement.specs.Demand.{Allowed, Untouched}
 use Rattle.confinement.proofs.Definitions.{says-true, allowed-says}

@@ -10,7 +10,7 @@ use lib.Seq.{getD-set-same, getD-set-other}
 use borrow.Author.Tests.{ne-eqb}
 use Rattle.isa.specs.declared.kind.Kind.{Kind}
 use Rattle.isa.specs.declared.kind.Instruction.{Instruction}
-use Rattle.isa.specs.Class.{classOf, named}
+use Rattle.class.specs.Class.{classOf, named}
 use Rattle.effect.specs.declared.effect.Effect.{Effect}
 use Rattle.effect.specs.declared.effect.Effect.the-variants.{Exit, Advance, Write, Pair, Jump, Link, LoadByte, LoadHalf, LoadWord, LoadLinked, StoreByte, StoreHalf, StoreWord, StoreLinked, Control, Return}
 use Rattle.effect.specs.Sound.{Sound}
@@ -20,7 +20,7 @@ use Rattle.machine.specs.State.{registerOf, specialOf}
 use Rattle.apply.specs.Apply.{putOf}
 use Rattle.machine.specs.Apply.{applyOf}
 use Rattle.machine.specs.Step.{exitOf}
-use Rattle.checker.specs.Lawful.{Not}
+use Rattle.rules.specs.Not.{Not}
 use Rattle.confinement.proofs.ByKind.{Goes, Follows}
 
 -- ---- a register written

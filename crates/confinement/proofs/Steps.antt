@@ -29,7 +29,7 @@ use Rattle.machine.specs.Step.{effectOf, effectAt, instructionAccess, accessAt,
 use Rattle.machine.proofs.Valid.{valid-lawful}
 use Rattle.machine.proofs.Steps.{no-refusal, step-outside, step-length}
 use Rattle.checker.specs.Check.{codeOf}
-use Rattle.checker.specs.Offset.{offsetOf}
+use Rattle.rules.specs.Offset.{offsetOf}
 use Rattle.checker.specs.Lawful.{Stands, Accesses, ByRegister, widthOf, wordsIn, Lawful}
 use Rattle.confinement.specs.Events.{isData}
 use Rattle.confinement.specs.Lists.{at}

@@ -11,7 +11,8 @@ use Rattle.machine.specs.declared.state.State.{State}
 use Rattle.machine.specs.State.{isLawful, refusalOf}
 use Rattle.machine.proofs.Valid.{valid}
 use Rattle.checker.specs.Check.{codeOf}
-use Rattle.checker.specs.Lawful.{Not, Lawful}
+use Rattle.rules.specs.Not.{Not}
+use Rattle.checker.specs.Lawful.{Lawful}
 use Rattle.checker.proofs.Whole.{accepted-lawful}
 use Rattle.confinement.specs.Calls.{Lent, methods, exported}
 use Rattle.confinement.specs.Demand.{Start, Alike, Demand3}

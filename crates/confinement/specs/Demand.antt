@@ -7,7 +7,7 @@ use mathlib.Core.List.{List, map}
 use lib.ListN.{length, getD, take, drop}
 use Rattle.layout.specs.declared.Layout.{Layout}
 use Rattle.checker.specs.Check.{accepted, checkOf, codeOf}
-use Rattle.checker.specs.Lawful.{Not}
+use Rattle.rules.specs.Not.{Not}
 use Rattle.checker.specs.Refusal.{All}
 use Rattle.effect.specs.Exit.{integerOverflow, systemCall, breakpoint, trap}
 use Rattle.system.specs.System.{isUser}

@@ -12,7 +12,7 @@ use borrow.Author.Tests.{leb-true, eqb-true}
 use Rattle.word.specs.Number.{signedOf, fitsOf}
 use Rattle.signed.proofs.Words.{product-below}
 use Rattle.word.proofs.Numbers.{wrap-below}
-use Rattle.isa.specs.Class.{classOf}
+use Rattle.class.specs.Class.{classOf}
 use Rattle.isa.proofs.RoundTrip.{Operands}
 use Rattle.isa.specs.declared.kind.Instruction.{Instruction}
 use Rattle.isa.specs.declared.kind.Alu.{Alu}

@@ -2,7 +2,7 @@
 use mathlib.Core.Path.{_≡_, refl}
 use mathlib.Core.List.{map}
 use Rattle.word.specs.Number.{signedOf, extendOf}
-use Rattle.isa.specs.Class.{registerWritten}
+use Rattle.class.specs.Class.{registerWritten}
 use Rattle.isa.specs.Reading.{fits, decodeOf, readFields, readOf}
 use Rattle.arithmetic.specs.Arithmetic.{bit, checked, shiftedSigned, product, divided}
 use Rattle.branch.specs.Branch.{slotOf, relativeOf, regionOf, branchIf}
@@ -13,8 +13,8 @@ use Rattle.machine.specs.Step.{effectOf, effectAt, tryOf, stepOf}
 use Rattle.layout.specs.Layout.{isCodeSize, isDataSize, isPlaced, isApart}
 use Rattle.view.specs.View.{seen, wordView}
 use Rattle.view.specs.Guard.{isMaskOf, maskIn, isMergeOf}
-use Rattle.checker.specs.Offset.{offsetOf}
-use Rattle.checker.specs.Rules.{viewAt, viewBefore, broken10, broken11, isGuarded, fitsData, fitsCode, broken12, broken13, broken14, targetOf, isEntry, lands, broken15}
+use Rattle.rules.specs.Offset.{offsetOf}
+use Rattle.rules.specs.Rules.{viewAt, viewBefore, broken10, broken11, isGuarded, fitsData, fitsCode, broken12, broken13, broken14, targetOf, isEntry, lands, broken15}
 use Rattle.checker.specs.Check.{isWordBroken, isFileBroken, checkOf}
 use Rattle.examples.specs.Cases.{Case, found, cases}
 

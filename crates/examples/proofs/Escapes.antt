@@ -6,7 +6,7 @@ use mathlib.Core.List.{List, [], _∷_, map}
 use lib.ListN.{getD, drop}
 use Rattle.word.specs.Number.{signedOf, extendOf}
 use Rattle.word.proofs.Choice.{by-test}
-use Rattle.isa.specs.Class.{registerWritten}
+use Rattle.class.specs.Class.{registerWritten}
 use Rattle.isa.specs.Reading.{fits, decodeOf, readFields, readOf}
 use Rattle.access.specs.Access.{addressOf, reaches, storeIf}
 use Rattle.branch.specs.Branch.{slotOf, regionOf, jumpIf}
@@ -22,10 +22,10 @@ use Rattle.layout.specs.declared.Layout.{Layout}
 use Rattle.layout.specs.Layout.{isCodeSize, isDataSize, isPlaced, isApart}
 use Rattle.view.specs.View.{seen, wordView}
 use Rattle.view.specs.Guard.{isMaskOf, maskIn, isMergeOf}
-use Rattle.checker.specs.Offset.{offsetOf}
-use Rattle.checker.specs.Rules.{viewAt, viewBefore, broken10, broken11, isGuarded, fitsData, fitsCode, broken12, broken13, broken14, targetOf, isEntry, lands, broken15}
+use Rattle.rules.specs.Offset.{offsetOf}
+use Rattle.rules.specs.Rules.{viewAt, viewBefore, broken10, broken11, isGuarded, fitsData, fitsCode, broken12, broken13, broken14, targetOf, isEntry, lands, broken15}
 use Rattle.checker.specs.Check.{isWordBroken, isFileBroken, accepted, checkOf, codeOf}
-use Rattle.checker.specs.Lawful.{Not}
+use Rattle.rules.specs.Not.{Not}
 use Rattle.checker.specs.Refusal.{All}
 use Rattle.checker.proofs.Says.{Says, holds, fails, eqs, les, ands, ors, saying}
 use Rattle.confinement.specs.Calls.{methods}

@@ -10,7 +10,7 @@ use lib.Seq.{getD-set-other, set-set}
 use Rattle.word.specs.Number.{signedOf, extendOf}
 use Rattle.word.specs.Bytes.{loadOf, storeOf}
 use Rattle.word.proofs.Memory.{load-store, set-every}
-use Rattle.isa.specs.Class.{registerWritten}
+use Rattle.class.specs.Class.{registerWritten}
 use Rattle.isa.specs.Reading.{fits, decodeOf, readFields, readOf}
 use Rattle.effect.specs.declared.effect.Effect.{Effect}
 use Rattle.effect.specs.declared.effect.Effect.the-variants.{Exit}
@@ -30,8 +30,8 @@ use Rattle.machine.specs.Resume.{isServed, resumedOf, resumeOf}
 use Rattle.layout.specs.Layout.{isCodeSize, isDataSize, isPlaced, isApart}
 use Rattle.view.specs.View.{seen, wordView}
 use Rattle.view.specs.Guard.{isMaskOf, maskIn, isMergeOf}
-use Rattle.checker.specs.Offset.{offsetOf}
-use Rattle.checker.specs.Rules.{viewAt, viewBefore, broken10, broken11, isGuarded, fitsData, fitsCode, broken12, broken13, broken14, targetOf, isEntry, lands, broken15}
+use Rattle.rules.specs.Offset.{offsetOf}
+use Rattle.rules.specs.Rules.{viewAt, viewBefore, broken10, broken11, isGuarded, fitsData, fitsCode, broken12, broken13, broken14, targetOf, isEntry, lands, broken15}
 use Rattle.checker.specs.Check.{isWordBroken, isFileBroken, accepted, checkOf, codeOf}
 use Rattle.checker.specs.Examples.{lengthM, layoutM, moduleM}
 use Rattle.checker.proofs.Examples.{m-accepted}

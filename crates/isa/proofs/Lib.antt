@@ -7,4 +7,3 @@ pub mod Arms
 pub mod Formats
 pub mod RoundTrip
 pub mod Encoding
-pub mod Classes

@@ -2,4 +2,3 @@ pub mod Table
 pub mod Drawing
 pub mod Reading
 pub mod Writing
-pub mod Class

@@ -1,5 +1,4 @@
-// The instruction set: its instructions as data, the formats of their words, and what kind of instruction each is.
-pub mod class;
+// The instruction set: its instructions as data, and the formats of their words.
 pub mod format;
 pub mod kind;
 pub mod reading;

@@ -9,7 +9,7 @@ use Rattle.isa.specs.declared.kind.Instruction.{Instruction}
 use Rattle.isa.specs.declared.reading.Reading.{Reading}
 use Rattle.isa.specs.declared.reading.Reading.the-variants.{Legal, NoInstruction}
 use Rattle.isa.specs.Reading.{readOf}
-use Rattle.isa.specs.Class.{classOf}
+use Rattle.class.specs.Class.{classOf}
 use Rattle.effect.specs.declared.effect.Effect.{Effect}
 use Rattle.effect.specs.declared.effect.Effect.the-variants.{Exit, Advance, Write, Pair, Jump, Link, LoadByte, LoadHalf, LoadWord, LoadLinked, StoreByte, StoreHalf, StoreWord, StoreLinked, Control, Return}
 use Rattle.effect.specs.Exit.{noInstruction, fetchOutside}

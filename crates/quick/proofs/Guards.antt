@@ -19,7 +19,7 @@ use Rattle.isa.specs.declared.reading.Reading.the-variants.{Legal, NoInstructio
 use Rattle.isa.specs.declared.format.Role.{Role}
 use Rattle.isa.specs.declared.format.Role.the-variants.{Operand, Control, Fixed, Code, Part}
 use Rattle.isa.specs.Table.{rowOf, instructions}
-use Rattle.isa.specs.Class.{classOf}
+use Rattle.class.specs.Class.{classOf}
 use Rattle.isa.specs.Reading.{accepts, fits, decodeOf, drawingFor, fitsKind, readFields, readOf}
 use Rattle.isa.proofs.Codes.{keyOf, every, every-kind, both}
 use Rattle.isa.proofs.Same.{is, same-kind, same-test}

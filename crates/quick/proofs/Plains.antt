@@ -13,12 +13,12 @@ use Rattle.isa.specs.declared.kind.System.the-variants.{Syscall, Break, Rfe, Mf
 use Rattle.isa.specs.declared.kind.Kind.{Kind}
 use Rattle.isa.specs.declared.kind.Kind.the-variants as K
 use Rattle.isa.specs.declared.kind.Instruction.{Instruction}
-use Rattle.isa.specs.declared.class.Destination.{Destination}
-use Rattle.isa.specs.declared.class.Destination.the-variants.{Nowhere, FieldRt, FieldRd, Return}
+use Rattle.class.specs.declared.Destination.{Destination}
+use Rattle.class.specs.declared.Destination.the-variants.{Nowhere, FieldRt, FieldRd, Return}
 use Rattle.isa.specs.declared.format.Role.{Role}
 use Rattle.isa.specs.declared.format.Role.the-variants.{Operand, Control, Fixed, Code, Part}
 use Rattle.isa.specs.Table.{rowOf}
-use Rattle.isa.specs.Class.{classOf, named, registerWritten}
+use Rattle.class.specs.Class.{classOf, named, registerWritten}
 use Rattle.isa.specs.Reading.{operand, decodeOf, drawingFor, readOf}
 use Rattle.isa.proofs.Codes.{both}
 use Rattle.isa.proofs.Roles.{is-true}

@@ -7,12 +7,12 @@ use Rattle.isa.specs.declared.kind.System.the-variants.{Syscall, Break, Rfe, Mf
 use Rattle.isa.specs.declared.kind.Kind.{Kind}
 use Rattle.isa.specs.declared.kind.Kind.the-variants as K
 use Rattle.isa.specs.declared.kind.Instruction.{Instruction}
-use Rattle.isa.specs.declared.class.Class.{Class}
-use Rattle.isa.specs.declared.class.Flow.{Flow}
-use Rattle.isa.specs.declared.class.Flow.the-variants.{Onward, Relative, Region, Register}
+use Rattle.class.specs.declared.Class.{Class}
+use Rattle.class.specs.declared.Flow.{Flow}
+use Rattle.class.specs.declared.Flow.the-variants.{Onward, Relative, Region, Register}
 use Rattle.isa.specs.declared.reading.Reading.{Reading}
 use Rattle.isa.specs.declared.reading.Reading.the-variants.{Legal, NoInstruction}
-use Rattle.isa.specs.Class.{classOf, registerWritten}
+use Rattle.class.specs.Class.{classOf, registerWritten}
 use Rattle.isa.specs.Reading.{readOf}
 use Rattle.view.specs.declared.View.{View}
 

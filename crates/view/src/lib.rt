@@ -1,7 +1,7 @@
 // What the checker's rules look at in a word.
 ghost use mathlib.Core.Path.{_≡_};
 ghost use Rattle.view.specs.View as Spec;
-use isa::class::Flow;
+use class::Flow;
 use isa::kind::Instruction;
 use isa::kind::Kind;
 use isa::kind::System;
@@ -94,7 +94,7 @@ fn seen(i: Instruction) -> View
     ensures { λ r. ⌜ r ≡ Spec.seen i ⌝ }
 {
     let kind = i.kind;
-    let class = isa::class::class_of(kind);
+    let class = class::class_of(kind);
     let flow = class.flow;
     let destination = class.destination;
     View {
@@ -105,7 +105,7 @@ fn seen(i: Instruction) -> View
         register: is_register(flow),
         link: class.link,
         width: class.width,
-        written: isa::class::named(destination, i),
+        written: class::named(destination, i),
         rs: i.rs,
         rd: i.rd,
         value: i.value,

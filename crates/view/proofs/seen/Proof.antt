@@ -1,5 +1,5 @@
 use Rattle.view.specs.View.{seen}
-use Rattle.isa.proofs.Classes.{written}
+use Rattle.class.proofs.Classes.{written}
 use borrow.Author.Needs.{needs}
 use Rattle.view.proofs.seen.Statement.{statement}
 use Rattle.view.proofs.seen.Tie as tie

@@ -1,4 +1,4 @@
-use Rattle.checker.specs.Rules.{wordRefusal}
+use Rattle.checker.specs.Scan.{wordRefusal}
 use borrow.Author.Needs.{needs}
 use Rattle.checker.proofs.words.word_refusal.Statement.{statement}
 use Rattle.checker.proofs.words.word_refusal.Tie as tie

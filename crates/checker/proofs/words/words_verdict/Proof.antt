@@ -1,6 +1,6 @@
 use Rattle.checker.proofs.Scan.{none-before, next-after, scan-stop, scan-go, scan-accepted, scan-refused}
 use Rattle.checker.specs.Check.{wordsVerdict}
-use Rattle.checker.specs.Rules.{viewBefore}
+use Rattle.rules.specs.Rules.{viewBefore}
 use Rattle.view.specs.View.{isBranch}
 use borrow.Author.Needs.{needs}
 use lib.ListN.{length}

@@ -1,0 +1,3 @@
+pub mod Not
+pub mod Offset
+pub mod Rules
