@@ -3,3 +3,4 @@ pub mod Says
 pub mod Reflection
 pub mod Whole
 pub mod Examples
+pub mod Verdicts

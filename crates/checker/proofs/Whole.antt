@@ -69,7 +69,7 @@ seven =
     ∷ verdict 7 noPlace ∷ []
 
 -- those of word i
-abbrev eight : ℕ → List Verdict
+abbrev pub eight : ℕ → List Verdict
 eight i =
     verdict 8 i ∷ verdict 9 i ∷ verdict 10 i ∷ verdict 11 i ∷ verdict 12 i ∷ verdict 13 i ∷ verdict 14 i ∷ verdict 15 i ∷ []
 
@@ -87,7 +87,7 @@ module _ (P : Verdict → Type 0) where
   abbrev Words : ℕ → ℕ → Type 0
   Words n i = ((j : ℕ) → i ≤ j → j < i + n → All P (eight j)) × P (verdict 16 (i + n - 2))
 
-  of-words : (n i : ℕ) → Words n i → All P (wordTrials n i)
+  pub of-words : (n i : ℕ) → Words n i → All P (wordTrials n i)
   of-words zero i w = let e : i + 0 ≡ i = omega arith in (rw e at (w .1), tt)
   of-words (suc n) i w =
       let e : i + suc n ≡ suc i + n = omega arith in

@@ -1,5 +1,5 @@
 -- What a refusal says: a rule that is broken at its place, and none before it in document 01's order.
-use Prim.Native.Nat.{ℕ, _≤_}
+use Prim.Native.Nat.{ℕ, _≤_, _<_}
 use mathlib.Core.Path.{_≡_}
 use mathlib.Core.Bool.{Bool, true, false}
 use mathlib.Core.List.{List, [], _∷_, _++_}
@@ -8,9 +8,9 @@ use lib.ListN.{length}
 use Rattle.word.specs.Bytes.{longest}
 use Rattle.layout.specs.declared.Layout.{Layout}
 use Rattle.checker.specs.declared.verdict.Verdict.{Verdict}
-use Rattle.checker.specs.Check.{trialsOf}
+use Rattle.checker.specs.Check.{noPlace, trialsOf}
 use Rattle.rules.specs.Not.{Not}
-use Rattle.checker.specs.Lawful.{Power, Placed, Apart, Rule8, Rule9, Rule10, Rule11, Rule12, Rule13, Rule14, Rule15, Rule16}
+use Rattle.checker.specs.Lawful.{wordsIn, Power, Placed, Apart, Rule8, Rule9, Rule10, Rule11, Rule12, Rule13, Rule14, Rule15, Rule16}
 
 abbrev pub pick : Bool → Type 0 → Type 0 → Type 0
 pick true P Q = P
@@ -56,3 +56,9 @@ pub record Refusal (l : Layout) (len : ℕ) (img : List ℕ) (t : Verdict) : Typ
   pub order : trialsOf l ≡ before ++ (t ∷ after)
   pub kept : All (Keeps l len img) before
   pub broken : Not (Keeps l len img t)
+
+-- the number and place of a verdict (document 01, under the Refusal table): 8 to 16 name a word of the module, all others no word
+pub record Told (l : Layout) (v : Verdict) : Type 0 where
+  pub number-most : v .number ≤ 16
+  pub no-word : v .number < 8 → v .place ≡ noPlace
+  pub a-word : 8 ≤ v .number → v .place < wordsIn l
