@@ -13,7 +13,7 @@ use Rattle.codec.specs.Bytes.{littleOf, flatOf, wordAt, wordsAt}
 use Rattle.codec.specs.Stores.{storesOf}
 
 -- what holds of every element of two lists holds of every one of both together
-append-every : (P : ℕ → Type 0) (l t : List ℕ) → ((i : ℕ) → P (getD l i 0)) → ((i : ℕ) → P (getD t i 0)) → (i : ℕ) → P (getD (l ++ t) i 0)
+pub append-every : (P : ℕ → Type 0) (l t : List ℕ) → ((i : ℕ) → P (getD l i 0)) → ((i : ℕ) → P (getD t i 0)) → (i : ℕ) → P (getD (l ++ t) i 0)
 append-every P [] t g h i = h i
 append-every P (x ∷ xs) t g h zero = g zero
 append-every P (x ∷ xs) t g h (suc i) = append-every P xs t (λ j. g (suc j)) h i

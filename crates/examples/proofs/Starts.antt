@@ -15,6 +15,7 @@ use Rattle.system.specs.System.{isUser}
 use Rattle.machine.specs.declared.state.State.{State}
 use Rattle.machine.specs.State.{registerOf, refusalOf, Typed, Bytes}
 use Rattle.codec.specs.Bytes.{othersOf}
+use Rattle.codec.proofs.Words.{append-every}
 use Rattle.confinement.specs.Calls.{Lent, methods}
 use Rattle.confinement.specs.Demand.{Start}
 
@@ -35,9 +36,7 @@ bytes-zeros (suc n) zero = omega arith
 bytes-zeros (suc n) (suc i) = bytes-zeros n i
 
 bytes-append : (k m : List ℕ) → Bytes k → Bytes m → Bytes (k ++ m)
-bytes-append [] m b c i = c i
-bytes-append (x ∷ xs) m b c zero = b zero
-bytes-append (x ∷ xs) m b c (suc i) = bytes-append xs m (λ j. b (suc j)) c i
+bytes-append = append-every (λ x. x < 2 ^ 8)
 
 -- ---- an image between zeros
 
