@@ -46,6 +46,7 @@ test:
 
 archive:
 	@mkdir -p target/archive
+	@[ -f target/libcc100.a ] || echo "proving and building the calls for C (about two minutes the first time) ..."
 	@rt check $(CALLS) verdict > target/archive/check.log 2>&1 || { cat target/archive/check.log; exit 1; }
 	@for c in $(CALLS); do rt staticlib $$c > target/archive/$$c.log 2>&1 || { cat target/archive/$$c.log; exit 1; }; done
 	@cd target/archive && rm -f *.o && for c in $(CALLS); do \
