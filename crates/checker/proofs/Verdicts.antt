@@ -2,37 +2,21 @@
 use Prim.Native.Nat.{ℕ, zero, suc, _≤_, _<_}
 use mathlib.Core.Path.{_≡_, refl, sym, subst, _∙_}
 use mathlib.Core.Bool.{Bool, true, false}
-use mathlib.Core.List.{List, [], _∷_}
+use mathlib.Core.List.{List}
 use native.Mathlib.Omega.{arith}
 use lib.Dec.{eqb}
 use lib.ListN.{length, drop, length-take, length-drop}
 use borrow.Author.Tests.{eqb-true, eqb-false}
-use Rattle.word.proofs.Choice.{by-test}
 use Rattle.layout.specs.declared.Layout.{Layout}
-use Rattle.layout.specs.Layout.{layoutRefusal, broken1, broken2, broken3, broken4, broken5, broken6}
-use Rattle.layout.proofs.Kept.{kept}
+use Rattle.layout.specs.Layout.{layoutRefusal}
+use Rattle.layout.proofs.Kept.{refusal-most, kept}
 use Rattle.rules.specs.Not.{Not}
 use Rattle.checker.specs.declared.verdict.Verdict.{Verdict}
-use Rattle.checker.specs.Check.{verdict, noPlace, accepted, wordTrials, firstOf, wordsVerdict, checkOf, codeOf, placedOf}
+use Rattle.checker.specs.Check.{verdict, noPlace, wordTrials, wordsVerdict, checkOf, codeOf, placedOf}
 use Rattle.checker.specs.Lawful.{wordsIn}
 use Rattle.checker.specs.Refusal.{All, Told}
 use Rattle.checker.proofs.Scan.{layout-refused, length-refused, words-tried}
-use Rattle.checker.proofs.Whole.{eight, of-words}
-
--- what holds of `accepted` and of all trials holds of the first that is broken
-first-of : (P : Verdict → Type 0) (b : Verdict → Bool) (ts : List Verdict) → P accepted → All P ts → P (firstOf b ts)
-first-of P b [] a h = a
-first-of P b (t ∷ ts) a h = by-test P (b t) (λ _. h .0) (λ _. first-of P b ts a (h .1))
-
-layout-most : (l : Layout) (len : ℕ) → layoutRefusal l len ≤ 6
-unfolding layoutRefusal
-layout-most l len =
-    by-test (λ k. k ≤ 6) (broken1 len) (λ _. omega arith) (λ _.
-    by-test (λ k. k ≤ 6) (broken2 l) (λ _. omega arith) (λ _.
-    by-test (λ k. k ≤ 6) (broken3 l) (λ _. omega arith) (λ _.
-    by-test (λ k. k ≤ 6) (broken4 l len) (λ _. omega arith) (λ _.
-    by-test (λ k. k ≤ 6) (broken5 l len) (λ _. omega arith) (λ _.
-    by-test (λ k. k ≤ 6) (broken6 l) (λ _. omega arith) (λ _. omega arith))))))
+use Rattle.checker.proofs.Whole.{eight, implied, first-of, of-words}
 
 -- a verdict is that of rules 1 to 6, that of 7, or that of the words
 module _ (P : Verdict → Type 0) (l : Layout) (len : ℕ) (img : List ℕ) (file : (k : ℕ) → k ≤ 6 → P (verdict k noPlace))
@@ -50,7 +34,7 @@ module _ (P : Verdict → Type 0) (l : Layout) (len : ℕ) (img : List ℕ) (fil
   by-layout : (r : ℕ) → r ≡ layoutRefusal l len → P (checkOf l len img)
   by-layout zero e = by-length e (eqb (length img) (l .«code_size»)) refl
   by-layout (suc r) e =
-      subst P (layout-refused l len img e (λ z. omega (arith, z))) (file (suc r) (omega (arith, e, layout-most l len)))
+      subst P (layout-refused l len img e (λ z. omega (arith, z))) (file (suc r) (omega (arith, e, refusal-most l len)))
 
   by-verdict : P (checkOf l len img)
   by-verdict = by-layout (layoutRefusal l len) refl
@@ -70,8 +54,8 @@ module _ (l : Layout) where
     where
       at : (i : ℕ) → i < wordsIn l → All (Told l) (eight i)
       at i h =
-          let t : (k : ℕ) → 8 ≤ k → k ≤ 16 → Told l (verdict k i) = λ k p q. word-told k i p q h in
-          (t 8 (omega arith) (omega arith), (t 9 (omega arith) (omega arith), (t 10 (omega arith) (omega arith), (t 11 (omega arith) (omega arith), (t 12 (omega arith) (omega arith), (t 13 (omega arith) (omega arith), (t 14 (omega arith) (omega arith), (t 15 (omega arith) (omega arith), tt))))))))
+          implied (λ t. (8 ≤ t .number) × ((t .number ≤ 16) × (t .place ≡ i))) (Told l)
+          (λ t f. word-told (t .number) (t .place) (f .0) (f .1 .0) (omega (arith, h, f .1 .1))) (eight i) (omega arith)
 
   pub verdict-told : (len : ℕ) (img : List ℕ) → Told l (checkOf l len img)
   verdict-told len img = by-verdict (Told l) l len img (λ k h. file-told k (omega (arith, h))) (λ _ _. file-told 7 (omega arith)) words-told

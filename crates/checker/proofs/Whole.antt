@@ -78,6 +78,10 @@ module _ {A : Type 0} (P : A → Type 0) where
   join [] t p q = q
   join (x ∷ s) t p q = (p .0, join s t (p .1) q)
 
+  pub implied : (Q : A → Type 0) → ((x : A) → P x → Q x) → (s : List A) → All P s → All Q s
+  implied Q f [] h = h
+  implied Q f (x ∷ s) h = (f x (h .0), implied Q f s (h .1))
+
 module _ (P : Verdict → Type 0) where
   halves : (s t : List Verdict) → All P (s ++ t) → All P s × All P t
   halves [] t p = (tt, p)
@@ -107,11 +111,10 @@ numbered l =
     join Numbered seven (wordTrials (wordsIn l) 0) (omega arith)
     (of-words Numbered (wordsIn l) 0 (λ j p q. omega arith, omega arith))
 
--- only `accepted` has number 0
-zero-accepted : (b : Verdict → Bool) (ts : List Verdict) → All Numbered ts → firstOf b ts .number ≡ 0 → firstOf b ts ≡ accepted
-zero-accepted b [] n e = refl
-zero-accepted b (t ∷ ts) n e =
-    by-test (λ v. v .number ≡ 0 → v ≡ accepted) (b t) (λ _ z. absurd (n .0 z)) (λ _. zero-accepted b ts (n .1)) e
+-- what holds of `accepted` and of all trials holds of the first that is broken
+pub first-of : (P : Verdict → Type 0) (b : Verdict → Bool) (ts : List Verdict) → P accepted → All P ts → P (firstOf b ts)
+first-of P b [] a h = a
+first-of P b (t ∷ ts) a h = by-test P (b t) (λ _. h .0) (λ _. first-of P b ts a (h .1))
 
 -- ---- the verdict
 
@@ -119,7 +122,9 @@ module _ (l : Layout) (len : ℕ) (img : List ℕ) where
   -- a host that finds number 0 has an accepted module
   pub number-accepted : checkOf l len img .number ≡ 0 → checkOf l len img ≡ accepted
   unfolding checkOf
-  number-accepted = zero-accepted (isBroken l len img) (trialsOf l) (numbered l)
+  number-accepted =
+      first-of (λ v. v .number ≡ 0 → v ≡ accepted) (isBroken l len img) (trialsOf l) (λ _. refl)
+      (implied Numbered (λ v. v .number ≡ 0 → v ≡ accepted) (λ t n z. absurd (n z)) (trialsOf l) (numbered l))
 
   abbrev Kept : Verdict → Type 0
   Kept = Keeps l len img

@@ -159,16 +159,16 @@ module _ (l : Layout) (len : ℕ) (img : List ℕ) (ok : Lawful l len img) where
         (λ e. record { inside = resumed-inside l len img ok s m v (exiting isServed refl e); untouched = untouched-same l m; answered = inl refl })
         (λ _. record { inside = v; untouched = untouched-same l m; answered = inr refl }))
 
-    stood : (xs : List Write) → stands methods l xs w ≡ true → Left m (putAll methods l xs w .state) (putAll methods l xs w .memory) (Unit {0})
+    kept-standing : (xs : List Write) → stands methods l xs w ≡ true → Left m (putAll methods l xs w .state) (putAll methods l xs w .memory) (Unit {0})
     unfolding isExit
-    stood xs e =
+    kept-standing xs e =
         let idle = exiting isExit refl (stands-exit methods l xs w e) in
         put-left (v .position .word) (here l len img ok s m v) (stands-here l len img ok s m v) idle xs w (stands-may methods l xs w e)
         (record { inside = v; word-is = refl })
 
     change-left : (xs : List Write) → Replied w (eventOf methods l (Change xs) w)
     change-left xs =
-        by-test (Replied w) (stands methods l xs w) (stood xs)
+        by-test (Replied w) (stands methods l xs w) (kept-standing xs)
         (λ _. record { inside = v; untouched = untouched-same l m; answered = tt })
 
     pub event-left : (e : Event) → Replied w (eventOf methods l e w)

@@ -1,4 +1,4 @@
--- What a layout that is not refused keeps to.
+-- The numbers by which a layout is refused, and what one that is not refused keeps to.
 use Prim.Native.Nat.{ℕ, suc, _+_, _%_, _≤_}
 use mathlib.Core.Path.{_≡_, refl, sym, subst}
 use mathlib.Core.Bool.{Bool, true, false, cond}
@@ -8,10 +8,20 @@ use lib.Dec.{eqb, leb}
 use lib.Pow.{pow-mono}
 use borrow.Author.Tests.{eqb-true, leb-true, ltb-false, not-false}
 use Rattle.word.specs.Bytes.{longest}
-use Rattle.word.proofs.Choice.{both}
+use Rattle.word.proofs.Choice.{by-test, both}
 use Rattle.layout.specs.declared.Layout.{Layout}
-use Rattle.layout.specs.Layout.{isCodeSize, isPlaced, broken1, broken2, broken3, broken4, layoutRefusal}
+use Rattle.layout.specs.Layout.{isCodeSize, isPlaced, broken1, broken2, broken3, broken4, broken5, broken6, layoutRefusal}
 use Rattle.layout.proofs.Sizes.{exponent-of, divides}
+
+pub refusal-most : (l : Layout) (len : ℕ) → layoutRefusal l len ≤ 6
+unfolding layoutRefusal
+refusal-most l len =
+    by-test (λ k. k ≤ 6) (broken1 len) (λ _. omega arith) (λ _.
+    by-test (λ k. k ≤ 6) (broken2 l) (λ _. omega arith) (λ _.
+    by-test (λ k. k ≤ 6) (broken3 l) (λ _. omega arith) (λ _.
+    by-test (λ k. k ≤ 6) (broken4 l len) (λ _. omega arith) (λ _.
+    by-test (λ k. k ≤ 6) (broken5 l len) (λ _. omega arith) (λ _.
+    by-test (λ k. k ≤ 6) (broken6 l) (λ _. omega arith) (λ _. omega arith))))))
 
 -- of the memory and the code area
 pub record Kept (l : Layout) (len : ℕ) : Type 0 where
