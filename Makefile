@@ -1,8 +1,11 @@
-# make: proves and builds the verdict program, and prints its verdict on the sample module.
+# make: proves and builds everything that people use, and prints the verdict on the sample module.
 # make test: the test command: formatting, proofs, must-fail edits, programs, and then each of the tests below.
 # make archive: the calls for C, as a library to link with.
-# make host: the example host program.
-# make host-test: the calls from C, the example host and the verdict program, tested.
+# make command: the command cc100.
+# make install: the header, the library, the programs and the manual pages (PREFIX=/usr/local, DESTDIR=). make uninstall: takes them away.
+# make host-test: the calls from C and the verdict program, tested.
+# make command-test: the command, plain and under the address and undefined-behaviour sanitizers, and its listing beside GNU objdump's.
+# make install-test: an installation, and README's first example compiled with it.
 # make samples-test: the samples that have a source, assembled anew and compared.
 # make expected-test: the stored outputs of the programs, compared with the second emulator. make expected: writes them anew.
 # make mips-test: QEMU's results, compared with the product's.
@@ -10,6 +13,8 @@
 # make harness: the calls beside the second emulator, on random and damaged input; make harness ROUNDS=20: a longer run.
 # make bench: speed beside plain C and, where it is installed, Unicorn.
 SHELL = /bin/bash
+VERSION = 1.1
+PREFIX = /usr/local
 CC = cc
 CFLAGS = -O2 -Wall -Wextra -Werror -Iinclude -Ibench
 ARCHIVE = target/libcc100.a
@@ -30,29 +35,39 @@ STORED = vectors steps listing verdict
 PROGRAM = $(addprefix tests/program/,run.c tables.c words.c compare.c figures.c)
 ROUNDS = 1
 
-.PHONY: sample test bench archive host host-test samples-test expected expected-test mips-test program-test harness
+# The command, and the same for its tests, which stops at the first thing that C leaves undefined.
+COMMAND = $(wildcard command/*.c)
+NAMED = -DVERSION='"$(VERSION)"'
+SANITIZED = -g -O1 -fsanitize=address,undefined -fno-sanitize-recover=all
+# What is installed, below PREFIX; each call has a manual page that leads to that of all.
+CALL_PAGES = $(addprefix share/man/man3/,$(addsuffix .3,cc100_check cc100_check_placed cc100_run cc100_step cc100_resume cc100_read cc100_write))
+INSTALLED = bin/cc100 bin/verdict include/cc100.h lib/libcc100.a lib/pkgconfig/cc100.pc share/man/man1/cc100.1 share/man/man3/cc100.3 $(CALL_PAGES)
+INTO = $(DESTDIR)$(PREFIX)
+FILLED = sed -e 's|@PREFIX@|$(PREFIX)|' -e 's|@VERSION@|$(VERSION)|'
 
-sample:
-	@mkdir -p target
-	@echo "proving and building (about two minutes the first time) ..."
-	@rt check verdict listing > target/sample.log 2>&1 || { cat target/sample.log; exit 1; }
-	@target/bin/verdict < samples/m.module
+TESTS = host-test command-test install-test samples-test expected-test mips-test program-test harness
+.PHONY: sample test bench archive command install uninstall expected $(TESTS)
+
+sample: command $(VERDICT)
+	@$(VERDICT) < samples/m.module
 
 # The tests in C link what has just been proved. They stand after it, and the toolchain's own last line is then said once more.
 test:
 	rt fmt --check
-	@log=$$(mktemp) && trap "rm -f $$log" EXIT && set -o pipefail && rt ci | tee $$log && \
-	$(MAKE) --no-print-directory host-test samples-test expected-test mips-test program-test harness && tail -n 1 $$log
+	@log=$$(mktemp) && trap "rm -f $$log" EXIT && tools/progress $$log rt ci && $(MAKE) --no-print-directory $(TESTS) && tail -n 1 $$log
 
+# An object is made anew where its crate, or one below it, was proved anew: the toolchain's stamp says which.
 archive:
 	@mkdir -p target/archive
-	@[ -f target/libcc100.a ] || echo "proving and building the calls for C (about two minutes the first time) ..."
-	@rt check $(CALLS) verdict > target/archive/check.log 2>&1 || { cat target/archive/check.log; exit 1; }
-	@for c in $(CALLS); do rt staticlib $$c > target/archive/$$c.log 2>&1 || { cat target/archive/$$c.log; exit 1; }; done
-	@cd target/archive && rm -f *.o && for c in $(CALLS); do \
-	    ar x ../staticlib/lib$$c.a && objcopy --set-section-alignment '.text.*=$(PAGE)' $$c.o; \
+	@tools/progress target/archive/check.log rt check $(CALLS) verdict listing
+	@n=0; for c in $(CALLS); do \
+	    n=$$((n + 1)); cmp -s target/stamp/$$c target/archive/$$c.stamp && continue; \
+	    echo "compiling $$c ($$n of $(words $(CALLS)))"; \
+	    rt staticlib $$c > target/archive/$$c.log 2>&1 || { cat target/archive/$$c.log; exit 1; }; \
+	    (cd target/archive && ar x ../staticlib/lib$$c.a && objcopy --set-section-alignment '.text.*=$(PAGE)' $$c.o) && \
+	    cp target/stamp/$$c target/archive/$$c.stamp || exit 1; \
 	done
-	@rm -f target/libcc100.a && ar rcs target/libcc100.a target/archive/*.o
+	@rm -f target/libcc100.a && ar rcs target/libcc100.a $(patsubst %,target/archive/%.o,$(CALLS))
 
 # Made anew where anything that it is made from changed; another archive (ARCHIVE=FILE) is taken as it is.
 target/libcc100.a: archive
@@ -60,14 +75,39 @@ target/libcc100.a: archive
 # The program is built with the archive; another one (VERDICT=FILE) is taken as it is.
 target/bin/verdict: archive
 
-host: $(ARCHIVE)
-	@mkdir -p target/host
-	@$(CC) $(CFLAGS) -o target/host/host host/host.c host/rows.c $(ARCHIVE)
-	@echo "target/host/host is built; try: target/host/host samples/margin.module samples/margin.rows"
+command: $(ARCHIVE)
+	@mkdir -p target/bin
+	@$(CC) $(CFLAGS) $(NAMED) -o target/bin/cc100 $(COMMAND) $(ARCHIVE)
 
-host-test: host $(VERDICT)
+install: command $(VERDICT)
+	@install -d $(sort $(dir $(addprefix $(INTO)/,$(INSTALLED))))
+	@install -m 755 target/bin/cc100 $(VERDICT) $(INTO)/bin
+	@install -m 644 include/cc100.h $(INTO)/include/cc100.h
+	@install -m 644 $(ARCHIVE) $(INTO)/lib/libcc100.a
+	@$(FILLED) cc100.pc.in > $(INTO)/lib/pkgconfig/cc100.pc
+	@$(FILLED) man/cc100.1 > $(INTO)/share/man/man1/cc100.1
+	@$(FILLED) man/cc100.3 > $(INTO)/share/man/man3/cc100.3
+	@for p in $(CALL_PAGES); do echo .so man3/cc100.3 > $(INTO)/$$p || exit 1; done
+	@echo "installed below $(INTO): $(INSTALLED)"
+
+uninstall:
+	@rm -f $(addprefix $(INTO)/,$(INSTALLED))
+
+host-test: $(ARCHIVE) $(VERDICT)
+	@mkdir -p target/host
 	@$(CC) $(CFLAGS) -o target/host/test host/test_*.c $(PLAIN) $(ARCHIVE)
-	@target/host/test target/host/host $(VERDICT)
+	@target/host/test $(VERDICT)
+
+command-test: command $(VERDICT)
+	@mkdir -p target/tests
+	@$(CC) $(CFLAGS) $(NAMED) $(SANITIZED) -o target/tests/cc100 $(COMMAND) $(ARCHIVE)
+	@$(CC) $(CFLAGS) -Itests/emulator -o target/tests/emulated tests/command/emulated.c $(EMULATOR)
+	@python3 tests/command/test.py target/bin/cc100 $(VERDICT) target/tests/emulated
+	@python3 tests/command/test.py target/tests/cc100 $(VERDICT) target/tests/emulated
+	@python3 tests/objdump/compare.py target/bin/cc100
+
+install-test:
+	@tests/install.sh $(VERSION)
 
 samples-test:
 	@mkdir -p target/tests
