@@ -94,7 +94,6 @@ void test_cases(void);
 void test_check(void);
 void test_words(void);
 void test_margin(void);
-void test_example(const char *program);
 void test_verdict(const char *program);
 
 #endif

@@ -1,4 +1,4 @@
-/* Tests of the calls from C, of the example host and of the verdict program: test HOST VERDICT, from the top folder. */
+/* Tests of the calls from C and of the verdict program: test VERDICT, from the top folder. */
 #include <inttypes.h>
 #include <signal.h>
 #include <stdarg.h>
@@ -69,8 +69,8 @@ static void touched(int number)
 
 int main(int count, char **arguments)
 {
-    if (count != 3) {
-        fprintf(stderr, "usage: test HOST VERDICT\n");
+    if (count != 2) {
+        fprintf(stderr, "usage: test VERDICT\n");
         return 2;
     }
     signal(SIGSEGV, touched);
@@ -87,8 +87,7 @@ int main(int count, char **arguments)
     test_check();
     test_words();
     test_margin();
-    test_example(arguments[1]);
-    test_verdict(arguments[2]);
+    test_verdict(arguments[1]);
     printf("host tests: %lu checks, %lu failed\n", checks, failures);
     return failures != 0;
 }
