@@ -60,6 +60,8 @@ FILE *open_input(const char *path);
 bool close_input(FILE *file, const char *path);
 /* What messages call it. */
 const char *name_of(const char *path);
+/* Writes out all that is printed so far. Gives whether that could be done; where not, that is said, the first time. */
+bool flush_output(void);
 /* Says that something is wrong with a file. */
 void complain(const char *format, ...) __attribute__((format(printf, 1, 2)));
 
@@ -102,12 +104,13 @@ struct text text_of(uint32_t word, uint32_t address);
 #define WRITES_LO 33u
 bool writes(const cc100_instruction *i, uint32_t place); /* registers 0 to 31, HI and LO */
 
-/* lines.c: a line for each of a module's words, from the first word of a bundle to before another word, with the guards among them marked and
-   an arrow at one word. */
+/* lines.c: a line for each of a module's words, from the first word of a bundle to before another word, with the guards among them marked.
+   Where there is an arrow at a word, every line has room for it. */
 struct excerpt {
     const struct module *module;
     struct layout layout;
     uint32_t arrow; /* a word's index, or CC100_NO_PLACE */
+    bool cut_off;   /* the code size is what was read of a file that is too long */
 };
 void print_lines(const struct excerpt *e, uint32_t from, uint32_t to);
 /* Where a branch or jump of the module leads: a word's index, or CC100_NO_PLACE. */

@@ -29,10 +29,11 @@ static void print_sentences(const struct refusal *r)
     print_wrapped("What to do:", r->change);
 }
 
-static void print_layout(const struct layout *l)
+static void print_layout(const struct excerpt *e)
 {
+    const struct layout *l = &e->layout;
     printf("\nChecked for memory of %" PRIu64 " bytes, ", l->memory_length);
-    printf("%" PRIu32 " bytes of code at 0x%" PRIx32 ",\n", l->code_size, l->code_base);
+    printf("%s%" PRIu32 " bytes of code at 0x%" PRIx32 ",\n", e->cut_off ? "at least " : "", l->code_size, l->code_base);
     printf("%" PRIu32 " bytes of data at 0x%" PRIx32 ".\n", l->data_size, l->data_base);
 }
 
@@ -72,7 +73,7 @@ static void explain_refused(const struct excerpt *e, cc100_verdict v)
     if (v.place != CC100_NO_PLACE)
         print_words(e, v.number);
     print_sentences(r);
-    print_layout(&e->layout);
+    print_layout(e);
 }
 
 static void explain_accepted(const struct excerpt *e)
@@ -80,7 +81,7 @@ static void explain_accepted(const struct excerpt *e)
     printf("%s is accepted, %" PRIu32 " words\n\n", name_of(e->module->path), e->module->length / 4);
     print_wrapped("", "Started as a host has to start it, it stays in its own code and data, and its run ends only in Integer Overflow, "
                       "System Call, Breakpoint or Trap. That is proved of every module that is accepted.");
-    print_layout(&e->layout);
+    print_layout(e);
 }
 
 static void print_named(const char *name, const char *text)
@@ -134,6 +135,7 @@ static enum status explain_file(const struct options *o)
         return STATUS_NOT_DONE;
     cc100_verdict v = check_module(&m, o, &e.layout);
     e.arrow = v.place;
+    e.cut_off = m.length > LARGEST_CODE && !o->code_size_given;
     if (o->json)
         print_object(&e, v);
     else if (v.number == CC100_DONE)

@@ -17,6 +17,17 @@ void complain(const char *format, ...)
     va_end(values);
 }
 
+bool flush_output(void)
+{
+    static bool failed;
+    errno = 0;
+    if (!failed && (fflush(stdout) != 0 || ferror(stdout))) {
+        failed = true;
+        complain("cannot write the output%s%s", errno ? ": " : "", errno ? strerror(errno) : "");
+    }
+    return !failed;
+}
+
 const char *name_of(const char *path) { return strcmp(path, "-") == 0 ? "standard input" : path; }
 
 FILE *open_input(const char *path)

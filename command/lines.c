@@ -20,18 +20,16 @@ static uint32_t tried_alone(const struct layout *l, uint32_t code_size, const ui
 }
 
 /* Whether a word and the two before it are an access, JR or JALR with its guard. The checker decides it: it refuses the word alone by 12 or
-   13, and takes the three. Only for 13 does the code size matter; the smallest one takes the least time. */
+   13, for which the smallest code size takes the least time, and takes the three in this layout. */
 static bool is_guarded(const struct excerpt *e, uint32_t index)
 {
     uint32_t last = index % BUNDLE, words[3], smallest = 4 * BUNDLE;
-    if (last < 2)
-        return false;
     for (uint32_t i = 0; i < 3; i++)
         words[i] = module_word(e->module, index - 2 + i);
     uint32_t alone = tried_alone(&e->layout, smallest, words + 2, 1, last);
     if (alone != CC100_REFUSED_ACCESS && alone != CC100_REFUSED_JUMP)
         return false;
-    uint32_t together = tried_alone(&e->layout, alone == CC100_REFUSED_JUMP ? e->layout.code_size : smallest, words, 3, last);
+    uint32_t together = tried_alone(&e->layout, e->layout.code_size, words, 3, last);
     return together == CC100_DONE || together == CC100_REFUSED_END;
 }
 
@@ -48,8 +46,8 @@ static uint32_t address_of(const struct excerpt *e, uint32_t index) { return e->
 
 static uint32_t index_of(const struct excerpt *e, uint32_t address)
 {
-    uint32_t index = (address - e->layout.code_base) / 4;
-    return index < e->module->length / 4 ? index : CC100_NO_PLACE;
+    uint32_t place = address - e->layout.code_base;
+    return place % 4 == 0 && place / 4 < e->module->length / 4 ? place / 4 : CC100_NO_PLACE;
 }
 
 uint32_t target_index(const struct excerpt *e, uint32_t index)
@@ -62,7 +60,9 @@ static void print_line(const struct excerpt *e, uint32_t index, char mark)
 {
     uint32_t address = address_of(e, index), word = module_word(e->module, index);
     struct text t = text_of(word, address);
-    printf("%s%5" PRIu32 "  0x%08" PRIx32 "  %08" PRIx32, index == e->arrow ? "-->" : "   ", index, address, word);
+    if (e->arrow != CC100_NO_PLACE)
+        printf(index == e->arrow ? "-->" : "   ");
+    printf("%5" PRIu32 "  0x%08" PRIx32 "  %08" PRIx32, index, address, word);
     printf("  %c %s", mark, t.name);
     if (*t.operands)
         printf("%*s%s", (int)(8 - strlen(t.name)), "", t.operands);

@@ -9,7 +9,7 @@ static bool says_left_over(const struct module *m)
     if (m->length > LARGEST_CODE)
         complain("%s is longer than the largest module, 65,536 bytes; the rest is not listed", name_of(m->path));
     else if (m->length % 4)
-        complain("%s has %" PRIu32 " bytes more than its words; they are not listed", name_of(m->path), m->length % 4);
+        complain("the length of %s, %" PRIu32 ", is no multiple of 4; what is left over is not listed", name_of(m->path), m->length);
     else
         return false;
     return true;
@@ -27,7 +27,8 @@ static enum status list(const struct options *o)
     }
     check_module(&m, o, &e.layout);
     print_lines(&e, 0, m.length / 4);
-    fflush(stdout);
+    if (!flush_output())
+        return STATUS_NOT_DONE;
     return says_left_over(&m) ? STATUS_REFUSED : STATUS_DONE;
 }
 

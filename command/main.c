@@ -1,5 +1,4 @@
 /* cc100: checks, explains, lists and runs report modules. */
-#include <errno.h>
 #include <string.h>
 
 #include "command.h"
@@ -49,10 +48,5 @@ static enum status work(int count, char **arguments)
 int main(int count, char **arguments)
 {
     enum status status = work(count, arguments);
-    errno = 0;
-    if (fflush(stdout) != 0 || ferror(stdout)) {
-        complain("cannot write the output%s%s", errno ? ": " : "", errno ? strerror(errno) : "");
-        return STATUS_NOT_DONE;
-    }
-    return (int)status;
+    return (int)(flush_output() ? status : STATUS_NOT_DONE);
 }

@@ -156,8 +156,10 @@ static void wrong_option(const struct subcommand *s, int answer, const char *tex
 {
     if (optopt >= ANSWER)
         wrong_usage(s, answer == ':' ? "--%s needs a value" : "--%s takes no value", rows[optopt - ANSWER].name);
-    else if (optopt)
+    else if (optopt > ' ' && optopt <= '~')
         wrong_usage(s, "there is no option '-%c'", optopt);
+    else if (optopt)
+        wrong_usage(s, "there is no option of one letter but -h");
     else
         wrong_usage(s, "there is no option '%s'", text);
 }

@@ -10,7 +10,7 @@
 #define ROW_LENGTH 16u
 #define NUMBERS 3 /* of a line: quantity, cost and price */
 #define LONGEST_LINE 256
-#define BLANKS " \t\r\n"
+#define BLANKS " \t\r"
 #define NOT_32_BITS "a number is not from -2147483648 to 2147483647"
 
 /* Reads a number and moves *text past it. Gives what is wrong with it, or NULL. What is left then begins with a blank: 12.5 and 1,250 are
@@ -35,19 +35,22 @@ struct reader {
 static const char *take_row(struct reader *r, char *line)
 {
     static char too_many[80];
-    uint32_t word;
+    uint32_t words[NUMBERS];
+    for (uint32_t i = 0; i < NUMBERS; i++) {
+        const char *wrong = read_number(&line, &words[i], "not three whole numbers");
+        if (wrong)
+            return wrong;
+    }
+    if (line[strspn(line, BLANKS)])
+        return "not three whole numbers";
     if (r->count == r->most) {
         snprintf(too_many, sizeof too_many, "more rows than the %" PRIu32 " that the data area has room for", r->most);
         return too_many;
     }
-    for (uint32_t i = 0; i < NUMBERS; i++) {
-        const char *wrong = read_number(&line, &word, "not three whole numbers");
-        if (wrong)
-            return wrong;
-        cc100_set_word(r->data + ROW_LENGTH * r->count + 4 * i, word);
-    }
+    for (uint32_t i = 0; i < NUMBERS; i++)
+        cc100_set_word(r->data + ROW_LENGTH * r->count + 4 * i, words[i]);
     r->count++;
-    return line[strspn(line, BLANKS)] ? "not three whole numbers" : NULL;
+    return NULL;
 }
 
 static const char *take_figures(struct reader *r, char *line)
@@ -66,6 +69,20 @@ static const char *take_figures(struct reader *r, char *line)
     return NULL;
 }
 
+/* Reads a line without its end. Gives whether there is one; *wrong is set where it is too long. A zero byte would end the text before it is
+   looked at: it is no digit and no blank, and neither is what takes its place. */
+static bool read_line(FILE *file, char line[LONGEST_LINE], const char **wrong)
+{
+    size_t length = 0;
+    int c;
+    while ((c = getc(file)) != EOF && c != '\n' && length < LONGEST_LINE - 1)
+        line[length++] = c == 0 ? '?' : (char)c;
+    line[length] = 0;
+    if (c != EOF && c != '\n')
+        *wrong = "the line is too long";
+    return c != EOF || length > 0;
+}
+
 /* Goes through a file's lines. Gives the count, or -1 where something is wrong, which is said. */
 static int read_lines(const char *path, struct reader *r, const char *(*take)(struct reader *, char *))
 {
@@ -75,8 +92,8 @@ static int read_lines(const char *path, struct reader *r, const char *(*take)(st
     FILE *file = open_input(path);
     if (!file)
         return -1;
-    for (; !wrong && fgets(line, sizeof line, file); number++)
-        wrong = !strchr(line, '\n') && !feof(file) ? "the line is too long" : take(r, line);
+    for (; !wrong && read_line(file, line, &wrong); number++)
+        wrong = wrong ? wrong : take(r, line);
     if (!close_input(file, path))
         return -1;
     if (wrong)

@@ -37,7 +37,7 @@ def printed_by(commands):
 
 def listed_wrong(blocks):
     """The blocks of listed words that the listing does not have."""
-    listing = "\n".join(line[3:] for line in printed_by("cc100 list samples/margin.module").split("\n"))
+    listing = printed_by("cc100 list samples/margin.module")
     return [body for kind, body in blocks if kind == "code" and re.match(r" *\d+  0x", body) and body not in listing]
 
 

@@ -19,7 +19,7 @@ CONTROL = (8, 12, 13, 14)
 FEWEST_WORDS = 10000  # of the 72; with fewer, words.txt is not whole
 SHOWN = 20  # differences; one mistake in the program can make hundreds
 # What cc100 list prints for a word. The marks of guards and the notes on targets are its own, and objdump has nothing like them.
-LISTED = re.compile(r" {3,7}(\d+)  0x([0-9a-f]{8})  ([0-9a-f]{8})  [ /|\\] (\S+)(?: +(\S+))?(?:  \((?:word \d+|outside the module)\))?")
+LISTED = re.compile(r" {0,4}(\d+)  0x([0-9a-f]{8})  ([0-9a-f]{8})  [ /|\\] (\S+)(?: +(\S+))?(?:  \((?:word \d+|outside the module)\))?")
 
 Encoding = collections.namedtuple("Encoding", "name bits mask fixed")
 Line = collections.namedtuple("Line", "address word text")
