@@ -87,6 +87,8 @@ struct exit_name {
     const char *name, *when;
 };
 #define LAST_REFUSAL 19u
+#define FIRST_EXIT CC100_EXIT_INTEGER_OVERFLOW
+#define LAST_EXIT CC100_EXIT_STOP_CORES
 const struct refusal *refusal_of(uint32_t number); /* NULL where there is none */
 const struct exit_name *exit_of(uint32_t number);  /* the same */
 

@@ -178,7 +178,8 @@ static enum status explain_number(const struct options *o)
     const struct refusal *r = refusal_of(number);
     const struct exit_name *x = exit_of(number);
     if (!r && !x)
-        return wrong_usage(&explain_command, "%" PRIu32 " is no number of a refusal, 1 to 19, or of an exit, 40 to 52", number);
+        return wrong_usage(&explain_command, "%" PRIu32 " is no number of a refusal, 1 to %u, or of an exit, %u to %u", number, LAST_REFUSAL,
+                           FIRST_EXIT, LAST_EXIT);
     if (o->json)
         print_number_object(number, r, x);
     else if (r)

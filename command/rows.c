@@ -1,5 +1,4 @@
 /* What a run hands to a module: rows of a table, read into the data area and printed from it, and figures. */
-#include <errno.h>
 #include <inttypes.h>
 #include <stdlib.h>
 #include <string.h>

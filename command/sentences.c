@@ -50,9 +50,6 @@ static const struct refusal refusals[LAST_REFUSAL] = {
      "Host: resume only after an Integer Overflow, System Call, Breakpoint or Trap.", HOST},
 };
 
-#define FIRST_EXIT CC100_EXIT_INTEGER_OVERFLOW
-#define LAST_EXIT CC100_EXIT_STOP_CORES
-
 static const struct exit_name exits[LAST_EXIT - FIRST_EXIT + 1] = {
     {"Integer Overflow", "The signed result of ADD, ADDI or SUB does not fit in 32 bits."},
     {"Address", "JR or JALR is given an address that is not a multiple of 4."},

@@ -114,13 +114,7 @@ static void listing(const uint8_t *input, size_t length)
 static void verdict(const uint8_t *input, size_t length)
 {
     struct em_module m = {196608, 0x10000, (uint32_t)length, 0x20000, 64, input, length};
-    uint32_t place, number = em_check(&m, &place);
-    if (number == 0)
-        printf("accept %zu\n", length / 4);
-    else if (place == EM_NO_PLACE)
-        printf("refuse %" PRIu32 " -\n", number);
-    else
-        printf("refuse %" PRIu32 " %" PRIu32 "\n", number, place);
+    em_print_verdict(&m);
 }
 
 static const struct {

@@ -122,18 +122,11 @@ static uint32_t number_of(const char *text) { return (uint32_t)strtoul(text, NUL
 static int check(char **arguments)
 {
     size_t length = load(arguments[0]);
-    uint32_t place, number;
     struct em_module m = {
         strtoull(arguments[1], NULL, 10), number_of(arguments[2]), number_of(arguments[3]), number_of(arguments[4]),
         number_of(arguments[5]), image, length,
     };
-    number = em_check(&m, &place);
-    if (number == 0)
-        printf("accept %zu\n", length / 4);
-    else if (place == EM_NO_PLACE)
-        printf("refuse %" PRIu32 " -\n", number);
-    else
-        printf("refuse %" PRIu32 " %" PRIu32 "\n", number, place);
+    em_print_verdict(&m);
     return 0;
 }
 

@@ -53,6 +53,8 @@ FINISHED = [
     ("4 45 50\n7 33 30\n1 10 10\n",
      "           4          45          50          20\n           7          33          30         -21\n"
      "           1          10          10           0\ntotal margin -1, rate -0.23 %\n"),
+    # the longest line, of 255 characters, with its end and without
+    ("2 0 %251d\n2 0 %251d" % (7, 7), "           2           0           7          14\n" * 2 + "total margin 28, rate 100.00 %\n"),
 ]
 
 
@@ -95,7 +97,7 @@ BAD_ROWS = [
     ("1 2 2147483648\n", ", line 1: " + NOT_32),
     ("1 2 3\n-2147483649 2 3\n", ", line 2: " + NOT_32),
     ("1 99999999999999999999 3\n", ", line 1: " + NOT_32),
-    ("1 2 %300d\n" % 3, ", line 1: the line is too long"),
+    ("1 2 %252d\n" % 3, ", line 1: the line is too long"),  # of 256 characters
     ("1 2 3\n1 2 3" + " " * 300, ", line 2: the line is too long"),
     ("1 2 3\0", ", line 1: " + NOT_NUMBERS),
 ]

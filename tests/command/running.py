@@ -145,6 +145,7 @@ FIGURES = [
     ("1 2\n3\n4 5 6\n", [1, 2, 3, 4, 5, 6]),
     ("\n \n\t 7\t\t8 \r\n\r\n\n9\n\n", [7, 8, 9]),
     ("+5 -5 -0 007\n", [5, -5, 0, 7]),
+    ("%255d\n6" % 5, [5, 6]),
     ("2147483647 -2147483648\n", [2147483647, -2147483648]),
     ("0\n" * 16, [0] * 16),
     (" ".join(str(i) for i in range(1, 17)) + "\n\n", list(range(1, 17))),
@@ -172,7 +173,7 @@ BAD_FIGURES = [
     ("0 " * 17, ", line 1: more figures than the 16 words of the data area"),
     ("0\n" * 17, ", line 17: more figures than the 16 words of the data area"),
     ("0 0 0 0\n" * 4 + "\n\nx\n", ", line 7: more figures than the 16 words of the data area"),
-    ("1\n2" + 300 * " " + "3\n", ", line 2: the line is too long"),
+    ("1\n%256d\n" % 2, ", line 2: the line is too long"),
     ("5\0", ", line 1: " + NOT_WHOLE),
     ("5\0 6\n7\n", ", line 1: " + NOT_WHOLE),
 ]

@@ -1,4 +1,7 @@
 /* The checker: document 01's sections on a module, its guards and the refusal table. */
+#include <inttypes.h>
+#include <stdio.h>
+
 #include "machine.h"
 
 #define DATA_BASE 26 /* the register that holds the data area's base */
@@ -238,6 +241,18 @@ uint32_t em_check(const struct em_module *m, uint32_t *place)
         return 0;
     *place = (uint32_t)words - 2;
     return 16;
+}
+
+/* Document 01, Marked cases: `accept` and the word count; or `refuse`, the number, and the word index or `-`. */
+void em_print_verdict(const struct em_module *m)
+{
+    uint32_t place, number = em_check(m, &place);
+    if (number == 0)
+        printf("accept %zu\n", word_count(m));
+    else if (place == EM_NO_PLACE)
+        printf("refuse %" PRIu32 " -\n", number);
+    else
+        printf("refuse %" PRIu32 " %" PRIu32 "\n", number, place);
 }
 
 uint32_t em_broken(const struct em_module *m)

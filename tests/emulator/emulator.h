@@ -42,6 +42,7 @@ struct em_module {
     size_t image_length;
 };
 uint32_t em_check(const struct em_module *m, uint32_t *place); /* 0 or the refusal, and its place or EM_NO_PLACE */
+void em_print_verdict(const struct em_module *m);              /* the verdict program's line */
 
 /* Every rule of 1 to 16 that the module breaks anywhere, whatever comes before it: bit n is set where rule n is broken. Words are those
    that lie whole in the image. */
