@@ -13,7 +13,7 @@
 # make harness: the calls beside the second emulator, on random and damaged input; make harness ROUNDS=20: a longer run.
 # make bench: speed beside plain C and, where it is installed, Unicorn.
 SHELL = /bin/bash
-VERSION = 1.1
+VERSION = 1.2
 PREFIX = /usr/local
 CC = cc
 CFLAGS = -O2 -Wall -Wextra -Werror -Iinclude -Ibench

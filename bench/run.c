@@ -114,7 +114,7 @@ static double step_product(uint8_t *room, uint8_t *memory, struct answer *a)
 {
     memcpy(room, a->state, CC100_STATE_LENGTH);
     double from = now();
-    while ((a->number = cc100_step(room, CC100_STATE_LENGTH, memory, MEMORY)) == CC100_DONE)
+    while ((a->number = cc100_step(room, CC100_STATE_LENGTH, memory, MEMORY).number) == CC100_DONE)
         a->steps++;
     double seconds = now() - from;
     memcpy(a->state, room, CC100_STATE_LENGTH);

@@ -8,8 +8,9 @@
    says that the report is complete, with the total of the margins in register 8 and their rate in register 9. The table and both are
    printed, or, where there are no rows, the words of the data area.
 
-   Anything else ends the run. An Integer Overflow, a Breakpoint and a Trap could be resumed, but a report is read for its figures, and one
-   that went on past an overflow would lack one without saying so. */
+   Anything else ends the run, and the last access to the data area is printed, so that one sees which cell the module was at. An Integer
+   Overflow, a Breakpoint and a Trap could be resumed, but a report is read for its figures, and one that went on past an overflow would lack
+   one without saying so. */
 #include <inttypes.h>
 #include <stdlib.h>
 #include <string.h>
@@ -71,12 +72,14 @@ static void print_data(const struct run *r, const char *first, const char *betwe
         printf("%s%" PRIu32, i == 0 ? first : i % WORDS_A_LINE ? between : line, cc100_get_word(data_of(r) + 4 * i));
 }
 
+/* The words of a row. */
+static const char *const cells[] = {"quantity", "cost", "price", "margin"};
+
 static void print_rows_object(const struct run *r)
 {
-    static const char *const names[] = {"quantity", "cost", "price", "margin"};
     printf(",\"rows\":[");
     for (uint32_t i = 0; i < 4u * (uint32_t)r->rows; i++)
-        printf("%s\"%s\":%" PRId32 "%s", i == 0 ? "{" : i % 4 ? "," : ",{", names[i % 4], (int32_t)cc100_get_word(data_of(r) + 4 * i),
+        printf("%s\"%s\":%" PRId32 "%s", i == 0 ? "{" : i % 4 ? "," : ",{", cells[i % 4], (int32_t)cc100_get_word(data_of(r) + 4 * i),
                i % 4 == 3 ? "}" : "");
     printf("],\"total\":%" PRId32 ",\"rate\":%" PRId32, (int32_t)register_of(r, TOTAL_REGISTER), (int32_t)register_of(r, RATE_REGISTER));
 }
@@ -90,6 +93,7 @@ static void print_end_object(const struct run *r, uint32_t number, bool complete
     printf(x ? "\"%s\"" : "null", x ? x->name : "");
     if (number == CC100_EXIT_SYSTEM_CALL)
         printf(",\"code\":%" PRIu32, cc100_read(present_word(&r->machine)).value);
+    print_access_member(&r->machine, r->machine.last);
     if (complete && table) {
         print_rows_object(r);
     } else if (complete) {
@@ -123,6 +127,23 @@ static enum status say_complete(const struct run *r, const char *how, bool table
     return STATUS_DONE;
 }
 
+/* Rows count from 1, as the lines of their file do. */
+static void print_last_access(const struct run *r)
+{
+    const struct machine *m = &r->machine;
+    uint32_t word = place_of(m, m->last) / 4;
+    printf("last access: ");
+    if (m->last.width == 0) {
+        printf("none\n");
+        return;
+    }
+    print_access(m, m->last);
+    printf(" of the data area");
+    if (word / 4 < (uint32_t)r->rows)
+        printf(", the %s of row %" PRIu32, cells[word % 4], word / 4 + 1);
+    printf("\n");
+}
+
 static enum status say_stopped(const struct run *r, uint32_t number)
 {
     const struct exit_name *x = exit_of(number);
@@ -138,6 +159,7 @@ static enum status say_stopped(const struct run *r, uint32_t number)
     else
         printf("%s", x ? x->name : "a number that is not known here");
     printf("; the report is not complete\n");
+    print_last_access(r);
     return STATUS_REFUSED;
 }
 
@@ -208,6 +230,7 @@ static enum status run_accepted(struct run *r, const struct module *m)
 {
     enum status status = STATUS_NOT_DONE;
     r->machine.memory_length = (size_t)r->layout.memory_length;
+    r->machine.data_base = r->layout.data_base;
     r->machine.memory = calloc(r->machine.memory_length, 1);
     r->figures = calloc(r->layout.data_size, 1);
     if (!r->machine.memory || !r->figures) {
@@ -242,6 +265,7 @@ const struct subcommand run_command = {
     "rows in its data area. SYSCALL 0 asks for the next figure: its place goes into\n"
     "register 8 and the figure into register 9. SYSCALL 1 says that the report is\n"
     "complete, with the total in register 8 and the rate in register 9. Anything else\n"
-    "ends the run, and the report is not complete.\n",
+    "ends the run, and the report is not complete; the last access to the data area is\n"
+    "then printed.\n",
     1, 1, run,
 };

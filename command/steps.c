@@ -20,6 +20,31 @@ uint32_t present_word(const struct machine *m)
     return address + 4 <= m->memory_length ? cc100_get_word(m->memory + address) : 0;
 }
 
+uint32_t place_of(const struct machine *m, struct access a) { return a.address - m->data_base; }
+
+void print_access(const struct machine *m, struct access a)
+{
+    printf("%s of %" PRIu32 " byte%s at 0x%" PRIx32 ", place %" PRIu32, a.store ? "store" : "load", a.width, a.width == 1 ? "" : "s", a.address,
+           place_of(m, a));
+}
+
+void print_access_member(const struct machine *m, struct access a)
+{
+    printf(",\"access\":");
+    if (a.width == 0)
+        printf("null");
+    else
+        printf("{\"address\":%" PRIu32 ",\"place\":%" PRIu32 ",\"width\":%" PRIu32 ",\"store\":%s}", a.address, place_of(m, a), a.width,
+               a.store ? "true" : "false");
+}
+
+/* A call that completes no access leaves the last one. */
+static void keep(struct machine *m, struct access a)
+{
+    if (a.width != 0)
+        m->last = a;
+}
+
 static double seconds(void)
 {
     struct timespec now;
@@ -45,6 +70,7 @@ static uint32_t advance_quietly(struct machine *m, uint64_t budget)
         uint64_t left = budget - m->steps;
         cc100_ran ran = cc100_run(m->state, sizeof m->state, m->memory, m->memory_length, left < SLICE ? (uint32_t)left : SLICE);
         m->steps += ran.steps;
+        keep(m, (struct access){ran.address, ran.width, ran.store});
         number = ran.number;
         if (terminal)
             show_progress(m->steps, budget, &shown);
@@ -62,8 +88,8 @@ static const char *place_name(uint32_t place, char *name, size_t size)
     return name;
 }
 
-/* What the step wrote: what its instruction writes, and all that it changed. */
-static void print_written(const struct machine *m, const uint8_t *before, uint32_t word, const char *format, const char *between)
+/* What the step wrote: what its instruction writes, and all that it changed. Gives how many places that is. */
+static int print_written(const struct machine *m, const uint8_t *before, uint32_t word, const char *format, const char *between)
 {
     cc100_instruction i = cc100_read(word);
     char name[8];
@@ -75,50 +101,73 @@ static void print_written(const struct machine *m, const uint8_t *before, uint32
         printf("%s", count++ ? between : "");
         printf(format, place_name(place, name, sizeof name), cc100_get_word(now));
     }
+    return count;
 }
 
-static void print_step(const struct machine *m, const uint8_t *before, uint32_t word, uint32_t number)
+/* A step that is taken: the state before it, its word and its answer. */
+struct taken {
+    uint8_t before[CC100_STATE_LENGTH];
+    uint32_t word, number;
+    struct access access;
+};
+
+static void print_step(const struct machine *m, const struct taken *t)
 {
-    uint32_t address = cc100_get_word(before + CC100_PC);
-    struct text t = text_of(word, address);
-    printf("%7" PRIu64 "  0x%08" PRIx32 "  %-8s%-20s|", m->steps, address, t.name, t.operands);
-    if (number == CC100_DONE)
-        print_written(m, before, word, " %s = 0x%08" PRIx32, ",");
-    else
-        printf(" exit %" PRIu32 ", %s", number, exit_of(number)->name);
+    uint32_t address = cc100_get_word(t->before + CC100_PC);
+    struct text text = text_of(t->word, address);
+    printf("%7" PRIu64 "  0x%08" PRIx32 "  %-8s%-20s|", m->steps, address, text.name, text.operands);
+    if (t->number != CC100_DONE) {
+        printf(" exit %" PRIu32 ", %s\n", t->number, exit_of(t->number)->name);
+        return;
+    }
+    int written = print_written(m, t->before, t->word, " %s = 0x%08" PRIx32, ",");
+    if (t->access.width != 0) {
+        printf(written ? "; " : " ");
+        print_access(m, t->access);
+    }
     printf("\n");
 }
 
-static void print_step_object(const struct machine *m, const uint8_t *before, uint32_t word, uint32_t number)
+static void print_step_object(const struct machine *m, const struct taken *t)
 {
-    uint32_t address = cc100_get_word(before + CC100_PC);
-    struct text t = text_of(word, address);
-    printf("{\"event\":\"step\",\"steps\":%" PRIu64 ",\"address\":%" PRIu32 ",\"word\":%" PRIu32, m->steps, address, word);
-    printf(",\"instruction\":\"%s%s%s\"", t.name, *t.operands ? " " : "", t.operands);
-    if (number == CC100_DONE) {
+    uint32_t address = cc100_get_word(t->before + CC100_PC);
+    struct text text = text_of(t->word, address);
+    printf("{\"event\":\"step\",\"steps\":%" PRIu64 ",\"address\":%" PRIu32 ",\"word\":%" PRIu32, m->steps, address, t->word);
+    printf(",\"instruction\":\"%s%s%s\"", text.name, *text.operands ? " " : "", text.operands);
+    if (t->number == CC100_DONE) {
         printf(",\"written\":{");
-        print_written(m, before, word, "\"%s\":%" PRIu32, ",");
-        printf("}}\n");
+        print_written(m, t->before, t->word, "\"%s\":%" PRIu32, ",");
+        printf("}");
     } else {
-        printf(",\"exit\":%" PRIu32 "}\n", number);
+        printf(",\"exit\":%" PRIu32, t->number);
     }
+    print_access_member(m, t->access);
+    printf("}\n");
+}
+
+static struct taken take_step(struct machine *m)
+{
+    struct taken t = {.word = present_word(m)};
+    memcpy(t.before, m->state, sizeof t.before);
+    cc100_stepped stepped = cc100_step(m->state, sizeof m->state, m->memory, m->memory_length);
+    t.number = stepped.number;
+    t.access = (struct access){stepped.address, stepped.width, stepped.store};
+    m->steps += t.number == CC100_DONE;
+    keep(m, t.access);
+    return t;
 }
 
 static uint32_t advance_shown(struct machine *m, uint64_t budget, bool json)
 {
-    uint32_t number = CC100_DONE;
-    uint8_t before[CC100_STATE_LENGTH];
-    while (number == CC100_DONE && m->steps < budget && !ferror(stdout)) {
-        uint32_t word = present_word(m);
-        memcpy(before, m->state, sizeof before);
-        number = cc100_step(m->state, sizeof m->state, m->memory, m->memory_length);
-        m->steps += number == CC100_DONE;
+    struct taken t = {.number = CC100_DONE};
+    while (t.number == CC100_DONE && m->steps < budget && !ferror(stdout)) {
+        t = take_step(m);
         if (json)
-            print_step_object(m, before, word, number);
+            print_step_object(m, &t);
         else
-            print_step(m, before, word, number);
+            print_step(m, &t);
     }
-    return number;
+    return t.number;
 }
 
 uint32_t advance(struct machine *m, const struct options *o)

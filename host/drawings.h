@@ -36,6 +36,7 @@ uint32_t word_of(uint32_t kind, uint32_t rs, uint32_t rt, uint32_t rd, uint32_t 
 
 int control_register(uint32_t kind); /* whether rd names a control register */
 int access_width(uint32_t kind);     /* 0: no access */
+int is_store(uint32_t kind);         /* or SC */
 int branches(uint32_t kind);         /* a branch or jump */
 int direct(uint32_t kind);           /* one with its target in the word */
 /* The register that is written, links to 31 aside: rd where the kind has it, else rt, but for stores, branches, traps and products. */

@@ -20,8 +20,15 @@ struct lent {
     size_t length;
 };
 
+/* An access as a call carries it: `store` is 1 for a store and 0 for a load, and three zeros are none. */
+struct access {
+    uint32_t address, width, store;
+};
+
+/* `access` is what the next step or run must carry, and then none again. */
 struct machine {
     struct lent state, memory;
+    struct access access;
 };
 
 /* A lawful state in kernel mode with PC 0, as far as its length reaches, and memory. All else is a pattern, so that a wrong write shows. */
@@ -38,13 +45,18 @@ void want_state(struct machine *m, uint32_t place, uint32_t word);
 void want_memory(struct machine *m, uint32_t address, uint32_t word);
 void want_pc(struct machine *m, uint32_t pc, uint32_t next_pc);
 void want_resumed(struct machine *m);
+void want_access(struct machine *m, uint32_t address, uint32_t width, uint32_t store); /* by the next call; else it must carry none */
 void want_left_by(struct machine *m, const struct machine *other); /* what the other has now */
 
 /* Two checks: every byte of state and of memory, guards included, is as wanted. */
 void expect_left(const struct machine *m);
 
+/* Three checks: what a step or run carries. */
+void expect_stepped_access(struct access expected, cc100_stepped came);
+void expect_ran_access(struct access expected, cc100_ran came);
+
 /* The calls. */
-uint32_t step(struct machine *m);
+cc100_stepped step(struct machine *m);
 cc100_ran run(struct machine *m, uint32_t budget);
 uint32_t resume(struct machine *m);
 
@@ -86,6 +98,7 @@ void test_instructions(void);
 void test_refusals(void);
 void test_exits(void);
 void test_step(void);
+void test_accesses(void);
 void test_run(void);
 void test_resume(void);
 void test_lengths(void);

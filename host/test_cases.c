@@ -59,23 +59,51 @@ static void resume_case(const uint8_t *bytes, struct machine *reached, uint32_t 
     }
 }
 
-/* Gives the steps completed. */
-static uint32_t step_case(const uint8_t *bytes, const char *line)
+static uint32_t state_word(const struct machine *m, uint32_t place) { return cc100_get_word(m->state.bytes + place); }
+
+/* The access that the step of a lawful state carries if it completes, by plain C's reader. */
+static struct access access_of(const struct machine *m)
+{
+    struct access a = {0, 0, 0};
+    uint64_t pc = state_word(m, CC100_PC);
+    if (pc + 4 > m->memory.length)
+        return a;
+    cc100_instruction i = plain_read(cc100_get_word(m->memory.bytes + pc));
+    if (access_width(i.kind) == 0 || (i.kind == SC && state_word(m, CC100_LL) == 0))
+        return a;
+    a.address = state_word(m, CC100_REGISTER(i.rs)) + i.value - (i.value & 0x8000) * 2;
+    a.width = (uint32_t)access_width(i.kind);
+    a.store = (uint32_t)is_store(i.kind);
+    return a;
+}
+
+/* Gives the steps completed, and the last access among them. */
+static uint32_t step_case(const uint8_t *bytes, const char *line, struct access *last)
 {
     struct machine m = machine_of(bytes);
-    uint32_t steps = cc100_get_word(bytes + STEPS), done = 0, came = 0, number = want_line(&m, line);
-    while (done < steps && (came = step(&m)) == CC100_DONE)
-        done++;
-    expect_number("number of cc100_step, repeated", number, came);
+    uint32_t steps = cc100_get_word(bytes + STEPS), done = 0, number = want_line(&m, line);
+    cc100_stepped came = {CC100_DONE, 0, 0, 0};
+    *last = (struct access){0, 0, 0};
+    while (done < steps && came.number == CC100_DONE) {
+        struct access a = access_of(&m);
+        came = step(&m);
+        int completed = came.number == CC100_DONE;
+        expect_stepped_access(completed ? a : (struct access){0, 0, 0}, came);
+        done += (uint32_t)completed;
+        if (completed && a.width)
+            *last = a;
+    }
+    expect_number("number of cc100_step, repeated", number, came.number);
     expect_left(&m);
     give_back(&m);
     return done;
 }
 
-static void run_case(const uint8_t *bytes, const char *line, uint32_t done)
+static void run_case(const uint8_t *bytes, const char *line, uint32_t done, struct access last)
 {
     struct machine m = machine_of(bytes);
     uint32_t number = want_line(&m, line);
+    m.access = last;
     expect_run(&m, cc100_get_word(bytes + STEPS), number, done);
     resume_case(bytes, &m, number);
     give_back(&m);
@@ -129,8 +157,9 @@ void test_cases(void)
             expect_number("memory longer than a case has room for", 0, 1);
             break;
         }
-        uint32_t done = step_case(bytes, line);
-        run_case(bytes, line, done);
+        struct access last;
+        uint32_t done = step_case(bytes, line, &last);
+        run_case(bytes, line, done, last);
         plain_run_case(bytes, line, done);
         plain_step_case(bytes, line);
     }

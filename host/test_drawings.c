@@ -102,6 +102,8 @@ int access_width(uint32_t kind)
     }
 }
 
+int is_store(uint32_t kind) { return kind == SB || kind == SC || kind == SH || kind == SW; }
+
 /* BEQ to BNE are the eight conditional branches, J to JR the four jumps. */
 int branches(uint32_t kind) { return (kind >= BEQ && kind <= BNE) || (kind >= J && kind <= JR); }
 int direct(uint32_t kind) { return branches(kind) && kind != JR && kind != JALR; }

@@ -19,12 +19,14 @@ static void longest_memory(void)
     calling("LW of the last word of the longest memory");
     want_state(&m, CC100_REGISTER(7), 0x12345678);
     want_pc(&m, 4, 8);
+    want_access(&m, LAST, 4, 0);
     expect_step(&m, CC100_DONE);
     give_back(&m);
     m = longest(0xA0A0FFFF); /* SB 0,-1(5) */
     calling("SB to the last byte of the longest memory");
     want_memory(&m, LAST, 0x00345678);
     want_pc(&m, 4, 8);
+    want_access(&m, CC100_LONGEST_MEMORY - 1, 1, 1);
     expect_run(&m, 1, CC100_DONE, 1);
     give_back(&m);
     m = longest(0x8CA70000); /* LW 7,0(5) */
@@ -64,6 +66,7 @@ static void short_memories(void)
         if (inside) {
             want_memory(&m, 4, cc100_get_word(m.state.bytes + CC100_REGISTER(5)));
             want_pc(&m, 4, 8);
+            want_access(&m, 4, 4, 1);
         }
         uint32_t stored = inside ? CC100_DONE : CC100_EXIT_STORE;
         expect_run(&m, 1, whole ? stored : CC100_EXIT_FETCH, inside);

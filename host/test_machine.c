@@ -37,7 +37,7 @@ static struct lent lend_bytes(size_t length)
 
 struct machine lend(size_t state_length, size_t memory_length)
 {
-    struct machine m = {lend_bytes(state_length), lend_bytes(memory_length)};
+    struct machine m = {lend_bytes(state_length), lend_bytes(memory_length), {0, 0, 0}};
     uint8_t state[CC100_STATE_LENGTH];
     size_t known = state_length < sizeof state ? state_length : sizeof state;
     make_state(state);
@@ -88,13 +88,32 @@ void want_resumed(struct machine *m)
     want_state(m, CC100_LL, 0);
 }
 
+void want_access(struct machine *m, uint32_t address, uint32_t width, uint32_t store)
+{
+    m->access = (struct access){address, width, store};
+}
+
 void want_left_by(struct machine *m, const struct machine *other)
 {
     memcpy(m->state.wanted, other->state.bytes, m->state.length);
     memcpy(m->memory.wanted, other->memory.bytes, m->memory.length);
 }
 
-uint32_t step(struct machine *m)
+void expect_stepped_access(struct access expected, cc100_stepped came)
+{
+    expect_number("address that cc100_step carries", expected.address, came.address);
+    expect_number("width that cc100_step carries", expected.width, came.width);
+    expect_number("store that cc100_step carries", expected.store, came.store);
+}
+
+void expect_ran_access(struct access expected, cc100_ran came)
+{
+    expect_number("address that cc100_run carries", expected.address, came.address);
+    expect_number("width that cc100_run carries", expected.width, came.width);
+    expect_number("store that cc100_run carries", expected.store, came.store);
+}
+
+cc100_stepped step(struct machine *m)
 {
     return cc100_step(m->state.bytes, m->state.length, m->memory.bytes, m->memory.length);
 }
@@ -111,7 +130,10 @@ uint32_t resume(struct machine *m)
 
 void expect_step(struct machine *m, uint32_t number)
 {
-    expect_number("number of cc100_step", number, step(m));
+    cc100_stepped stepped = step(m);
+    expect_number("number of cc100_step", number, stepped.number);
+    expect_stepped_access(m->access, stepped);
+    want_access(m, 0, 0, 0);
     expect_left(m);
 }
 
@@ -120,6 +142,8 @@ void expect_run(struct machine *m, uint32_t budget, uint32_t number, uint32_t st
     cc100_ran ran = run(m, budget);
     expect_number("number of cc100_run", number, ran.number);
     expect_number("steps of cc100_run", steps, ran.steps);
+    expect_ran_access(m->access, ran);
+    want_access(m, 0, 0, 0);
     expect_left(m);
 }
 

@@ -110,7 +110,11 @@ static uint32_t expect_report(struct machine *m, const struct row *rows)
     struct report r = {0, 0, 0};
     put_rows(m, rows);
     uint32_t number = calculate(m, &r, rows);
-    expect_number("number of cc100_run", number, run(m, BUDGET).number);
+    cc100_ran ran = run(m, BUDGET);
+    expect_number("number of cc100_run", number, ran.number);
+    expect_number("an access is carried", 1, ran.width > 0);
+    expect_number("its first byte is in the data", 1, ran.address >= usual.data_base);
+    expect_number("its last byte is in the data", 1, ran.address + ran.width <= usual.data_base + usual.data_size);
     want_worked(m);
     if (number == CC100_EXIT_SYSTEM_CALL) {
         want_state(m, CC100_REGISTER(TOTAL), (uint32_t)r.total);

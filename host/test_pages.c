@@ -38,7 +38,7 @@ static void lent_to_the_edge(uint8_t *states, uint8_t *memories, size_t size, si
     cc100_ran ran = cc100_run(state, CC100_STATE_LENGTH, memory, length, 100);
     expect_number("number of cc100_run", number, ran.number);
     expect_number("steps of cc100_run", steps, ran.steps);
-    expect_number("number of cc100_step", number, cc100_step(state, CC100_STATE_LENGTH, memory, length));
+    expect_number("number of cc100_step", number, cc100_step(state, CC100_STATE_LENGTH, memory, length).number);
     expect_number("number of cc100_resume", length < 4 ? CC100_REFUSED_RESUME : CC100_DONE,
                   cc100_resume(state, CC100_STATE_LENGTH, memory, length));
     give_back(&m);
@@ -52,7 +52,7 @@ static void short_states(uint8_t *states, uint8_t *memories, size_t size)
         uint8_t *state = states + size - lengths[i];
         calling("state of %zu bytes at the end of a page", lengths[i]);
         expect_number("number of cc100_run", CC100_REFUSED_STATE, cc100_run(state, lengths[i], memories, 8, 1).number);
-        expect_number("number of cc100_step", CC100_REFUSED_STATE, cc100_step(state, lengths[i], memories, 8));
+        expect_number("number of cc100_step", CC100_REFUSED_STATE, cc100_step(state, lengths[i], memories, 8).number);
         expect_number("number of cc100_resume", CC100_REFUSED_STATE, cc100_resume(state, lengths[i], memories, 8));
     }
 }
@@ -81,7 +81,7 @@ static void nothing_written(uint8_t *states, uint8_t *memories, size_t size, uin
     calling("register 0 %u, in a state that cannot be written", (unsigned)register_0);
     if (register_0) {
         expect_number("number of cc100_run", CC100_REFUSED_STATE, cc100_run(states, CC100_STATE_LENGTH, memories, size, 1).number);
-        expect_number("number of cc100_step", CC100_REFUSED_STATE, cc100_step(states, CC100_STATE_LENGTH, memories, size));
+        expect_number("number of cc100_step", CC100_REFUSED_STATE, cc100_step(states, CC100_STATE_LENGTH, memories, size).number);
     }
     expect_number("number of cc100_resume", register_0 ? CC100_REFUSED_STATE : CC100_REFUSED_RESUME,
                   cc100_resume(states, CC100_STATE_LENGTH, memories, size));

@@ -124,7 +124,7 @@ static void memory_too_long(void)
     put_state(&m, CC100_LL, 2);
     expect_refused(&m, CC100_REFUSED_MEMORY);
     calling("memory of %u bytes, state of 163", CC100_LONGEST_MEMORY + 1);
-    expect_number("number of cc100_step", CC100_REFUSED_MEMORY, cc100_step(m.state.bytes, 163, m.memory.bytes, m.memory.length));
+    expect_number("number of cc100_step", CC100_REFUSED_MEMORY, cc100_step(m.state.bytes, 163, m.memory.bytes, m.memory.length).number);
     expect_number("number of cc100_run", CC100_REFUSED_MEMORY, cc100_run(m.state.bytes, 163, m.memory.bytes, m.memory.length, 1).number);
     expect_number("number of cc100_resume", CC100_REFUSED_MEMORY, cc100_resume(m.state.bytes, 163, m.memory.bytes, m.memory.length));
     expect_left(&m);

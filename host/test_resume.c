@@ -57,6 +57,7 @@ static void host_changes(void)
     calling("run after a host's changes");
     want_state(&m, CC100_REGISTER(6), 1234);
     want_state(&m, CC100_REGISTER(8), 56);
+    want_access(&m, 32, 4, 0);
     want_pc(&m, 12, 16);
     expect_run(&m, 10, CC100_EXIT_SYSTEM_CALL, 2);
     give_back(&m);

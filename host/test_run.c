@@ -65,7 +65,7 @@ static void many_steps(void)
 static uint32_t by_steps(struct machine *m, uint32_t budget)
 {
     uint32_t done = 0;
-    while (done < budget && step(m) == CC100_DONE)
+    while (done < budget && step(m).number == CC100_DONE)
         done++;
     return done;
 }
@@ -125,6 +125,7 @@ static void stores(void)
     for (uint32_t address = 16; address < MEMORY_LENGTH; address += 4)
         want_memory(&m, address, address);
     want_state(&m, CC100_REGISTER(5), MEMORY_LENGTH);
+    want_access(&m, MEMORY_LENGTH - 4, 4, 1);
     calling("a loop that stores from 16 to the end of memory");
     expect_run(&m, 1000, CC100_EXIT_STORE, 3 * (MEMORY_LENGTH - 16) / 4);
     give_back(&m);

@@ -16,8 +16,9 @@
    - hands each call the state and memory that the last one left, and changes in them only registers 1 to 25 and 28 to 31, HI, LO and bytes of
      the data area, and these only where the step of the state ends in an exit.
 
-   Then every fetch is from its code area and every load and store in its data area, no exits are met but CC100_EXIT_INTEGER_OVERFLOW,
-   CC100_EXIT_SYSTEM_CALL, CC100_EXIT_BREAKPOINT and CC100_EXIT_TRAP, and all other memory keeps its bytes and has no influence. */
+   Then every fetch is from its code area and every load and store in its data area, and so is every access that an answer carries; no exits
+   are met but CC100_EXIT_INTEGER_OVERFLOW, CC100_EXIT_SYSTEM_CALL, CC100_EXIT_BREAKPOINT and CC100_EXIT_TRAP, and all other memory keeps its
+   bytes and has no influence. */
 #ifndef CC100_H
 #define CC100_H
 
@@ -110,9 +111,18 @@ typedef struct cc100_verdict {
     uint32_t number, place;
 } cc100_verdict;
 
-/* How a run ended: `number` is CC100_DONE, an exit or a refusal, `steps` the steps completed. */
+/* How a step ended: `number` is CC100_DONE, an exit or a refusal. The rest is the memory access that it completed: `width` bytes, 1, 2 or 4, at
+   `address`, and `store` is 1 for a store, or SC, and 0 for a load, or LL. Where there is none, as in every exit and refusal and in an SC that
+   does not store, all three are 0; an access can be at address 0, so `width` tells whether there is one. */
+typedef struct cc100_stepped {
+    uint32_t number, address, width, store;
+} cc100_stepped;
+
+/* How a run ended: `number` is CC100_DONE, an exit or a refusal, `steps` the steps completed. The rest is the last memory access among those
+   steps, as in cc100_stepped, also where later ones had none and where an exit ends the run; three zeros where none of them had one. Earlier
+   calls do not count. */
 typedef struct cc100_ran {
-    uint32_t number, steps;
+    uint32_t number, steps, address, width, store;
 } cc100_ran;
 
 /* An instruction. `kind` is its number in docs/INSTRUCTIONS.md, 1 to 72, or 0: no instruction.
@@ -140,15 +150,15 @@ cc100_verdict cc100_check_placed(uint32_t code_base, uint32_t code_size, uint32_
 
 /* Takes one step: runs the instruction at PC.
    Refuses, in this order: CC100_REFUSED_MEMORY, CC100_REFUSED_STATE.
-   Answers CC100_DONE, and leaves the next state and the memory as the instruction leaves it; or the exit, 40 to 52, that the step ends in,
-   and leaves state and memory as they were. */
-uint32_t cc100_step(uint8_t *state, size_t state_length, uint8_t *memory, size_t memory_length);
+   Answers CC100_DONE and the access, and leaves the next state and the memory as the instruction leaves it; or the exit, 40 to 52, that the
+   step ends in, and leaves state and memory as they were. */
+cc100_stepped cc100_step(uint8_t *state, size_t state_length, uint8_t *memory, size_t memory_length);
 
 /* Takes steps until `budget` of them are completed or one ends in an exit.
    Refuses, in this order: CC100_REFUSED_MEMORY, CC100_REFUSED_STATE; `steps` is then 0. It does so with budget 0 too.
    Answers CC100_DONE where the budget is spent and the module still running, also where the step after that would exit; or the exit, 40
-   to 52. `steps` are the steps completed, without the one that exits. Leaves the state and memory that those steps reached: after an exit,
-   PC is at the instruction that exits. */
+   to 52. `steps` are the steps completed, without the one that exits, and the access is the last of theirs. Leaves the state and memory that
+   those steps reached: after an exit, PC is at the instruction that exits. */
 cc100_ran cc100_run(uint8_t *state, size_t state_length, uint8_t *memory, size_t memory_length, uint32_t budget);
 
 /* Moves a state past the instruction whose step ends in CC100_EXIT_INTEGER_OVERFLOW, _SYSTEM_CALL, _BREAKPOINT or _TRAP.

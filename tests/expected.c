@@ -58,8 +58,9 @@ static void vectors(const uint8_t *input, size_t length)
 static uint32_t take_steps(uint8_t *state, uint8_t *memory, uint32_t length, uint32_t steps)
 {
     uint32_t number = 0;
+    struct em_access access; /* the program does not print it */
     while (steps-- > 0 && number == 0)
-        number = em_step(state, EM_STATE_LENGTH, memory, length);
+        number = em_step(state, EM_STATE_LENGTH, memory, length, &access);
     return number;
 }
 

@@ -5,10 +5,10 @@
 
    The first places a module at 0x10000 in 196,608 bytes of memory, with its data area at 0x20000, and starts it as demand 3 says: in user
    mode at its first word, register 26 the data base, register 27 the code base; all else is 0. It takes up to so many steps and prints a line
-   for each: the address, the word, and registers 0 to 31, HI and LO after it, in hexadecimal; or, where the step exits, the address, the
-   word, `exit` and the number, and ends. While figures are left, SYSCALL 0 does not end it: register 8 gets the figure's place, 0, 4, 8 and
-   so on, and register 9 the figure, and the module is resumed. At the end it prints `data` and the first 16 words of the data area. It does
-   not look whether the module is accepted.
+   for each: the address, the word, the address and width of its access and 1 for a store or 0 for a load, three zeros where there is none,
+   and registers 0 to 31, HI and LO after it, in hexadecimal; or, where the step exits, the address, the word, `exit` and the number, and ends.
+   While figures are left, SYSCALL 0 does not end it: register 8 gets the figure's place, 0, 4, 8 and so on, and register 9 the figure, and the
+   module is resumed. At the end it prints `data` and the first 16 words of the data area. It does not look whether the module is accepted.
 
    The second prints the checker's verdict in the verdict program's words. */
 #include <inttypes.h>
@@ -78,11 +78,14 @@ static uint32_t step(void)
     uint32_t address = get(state + 4 * PC);
     uint32_t word = address <= MEMORY_LENGTH - 4 ? get(memory + address) : 0;
     printf("%" PRIx32 " %" PRIx32, address, word);
-    uint32_t number = em_step(state, sizeof state, memory, sizeof memory);
-    if (number == 0)
+    struct em_access access;
+    uint32_t number = em_step(state, sizeof state, memory, sizeof memory, &access);
+    if (number == 0) {
+        printf(" %" PRIx32 " %" PRIx32 " %" PRIx32, access.address, access.width, access.store);
         print_registers();
-    else
+    } else {
         printf(" exit %" PRIu32 "\n", number);
+    }
     return number;
 }
 

@@ -176,9 +176,10 @@ def test_standard_input_of_run():
     once = "cc100: standard input can be read only once\n"
     with open(path_of("samples/margin.module"), "rb") as file:
         margin = file.read()
-    # Four steps, and 48 for each of four rows of zeros, lead to word 32, the Trap for no sales.
+    # Four steps, and 48 for each of four rows of zeros, lead to word 32, the Trap for no sales. The margin of the fourth is stored at 60.
     expect("run -", REFUSED, "64 words of code at 0x10000, 64 bytes of data at 0x20000\n"
-           "after 196 steps, at 0x10080: Trap; the report is not complete\n", data=margin)
+           "after 196 steps, at 0x10080: Trap; the report is not complete\n"
+           "last access: store of 4 bytes at 0x2003c, place 60 of the data area\n", data=margin)
     for arguments in ("run - --rows -", "run - --figures -", "run samples/m.module --rows - --figures -"):
         expect(arguments, NOT_DONE, "", once, data=margin if arguments.startswith("run -") else b"1 2 3\n")
 

@@ -2,15 +2,16 @@
 import json
 import random
 
-from modules import module
+from modules import TRAP as TRAP_WORD, module
 from program import DONE, NOT_DONE, REFUSED, equal, expect, write
-from running import COMPLETE, INCOMPLETE, SYSCALL_1, after, data_text, end_object, placed, start_object, stored
+from running import COMPLETE, SYSCALL_1, after, data_text, end_object, guarded, incomplete, placed, start_object, stored
 
 HEADING = "    quantity        cost       price      margin\n"
 MARGIN = ["run", "samples/margin.module", "--rows"]
 SMALLEST, LARGEST = -2 ** 31, 2 ** 31 - 1
 TABLES = 300
 OVERFLOW, TRAP = "Integer Overflow", "Trap"
+CELLS = ("quantity", "cost", "price", "margin")
 
 
 def expect_table(rows, status, out, more=()):
@@ -21,24 +22,27 @@ def expect_table(rows, status, out, more=()):
 # to 63, in which the fifth word, at 0x100e8, is the Trap: 48 in all, so that 196 steps lead to word 32, the Trap for no sales. From
 # there 6 steps lead to the digits, each of 13 steps, words 38 to 50, and two products: SYSCALL is reached after 202 + 4 * 33 steps,
 # at word 51.
+#
+# A row's loads come before its difference, the price last, and the store of its margin before the total. The rows are always four: those
+# that are not given are zeros, and are not named.
 STOPPED = [
     # the difference, SUB at word 15
-    ("1 -1 2147483647\n", 15, 0x1003C, OVERFLOW),
+    ("1 -1 2147483647\n", 15, 0x1003C, OVERFLOW, (8, 4, "load"), ", the price of row 1"),
     # the margin, after words 4 to 19 and four of the product; it is 2^31
-    ("65536 0 32768\n", 24, 0x100E8, TRAP),
+    ("65536 0 32768\n", 24, 0x100E8, TRAP, (8, 4, "load"), ", the price of row 1"),
     # the total, ADD at word 23, in the second row: 52 + 16 + 10 + 3
-    ("1 0 2000000000\n1 0 2000000000\n", 81, 0x1005C, OVERFLOW),
+    ("1 0 2000000000\n1 0 2000000000\n", 81, 0x1005C, OVERFLOW, (28, 4, "store"), ", the margin of row 2"),
     # a sale, 4 + 24 + 10 and four of the product
-    ("2 2000000000 2000000001\n", 42, 0x100E8, TRAP),
+    ("2 2000000000 2000000001\n", 42, 0x100E8, TRAP, (12, 4, "store"), ", the margin of row 1"),
     # the sales, ADD at word 28: 52 + 24 + 20
-    ("1 1999999999 2000000000\n1 1999999999 2000000000\n", 96, 0x10070, OVERFLOW),
+    ("1 1999999999 2000000000\n1 1999999999 2000000000\n", 96, 0x10070, OVERFLOW, (28, 4, "store"), ", the margin of row 2"),
     # no sales
-    ("0 835 1250\n", 196, 0x10080, TRAP),
-    ("3 835 1250\n-3 835 1250\n", 196, 0x10080, TRAP),
+    ("0 835 1250\n", 196, 0x10080, TRAP, (60, 4, "store"), ""),
+    ("3 835 1250\n-3 835 1250\n", 196, 0x10080, TRAP, (60, 4, "store"), ""),
     # ten times the rate, 202 + 2 and four of the product: the rate is 10^9
-    ("1 -999999999 1\n", 208, 0x100E8, TRAP),
+    ("1 -999999999 1\n", 208, 0x100E8, TRAP, (60, 4, "store"), ""),
     # ten times the remainder, 202 + 2 + 10 + 4 and four of the product: it is 10^9
-    ("1 1000000000 2000000000\n", 222, 0x100E8, TRAP),
+    ("1 1000000000 2000000000\n", 222, 0x100E8, TRAP, (60, 4, "store"), ""),
 ]
 # Worked out by hand. In the last the margins are 4 * 5, 7 * -3 and 1 * 0, and -1 of 200 + 210 + 10 is -0.238 percent.
 FINISHED = [
@@ -59,8 +63,8 @@ FINISHED = [
 
 
 def test_tables():
-    for rows, steps, address, what in STOPPED:
-        expect_table(rows, REFUSED, placed(64) + after(steps, address) + what + INCOMPLETE)
+    for rows, steps, address, what, access, cell in STOPPED:
+        expect_table(rows, REFUSED, placed(64) + after(steps, address) + what + incomplete(access, cell=cell))
     for rows, table in FINISHED:
         expect_table(rows, DONE, placed(64) + after(334, 0x100CC) + COMPLETE + HEADING + table)
 
@@ -73,7 +77,20 @@ def test_samples():
     words 4 to 19 and four of the product lead to the Trap. Without rows there are no sales."""
     expect(MARGIN + ["samples/margin.rows"], DONE, stored("margin.expected"))
     expect(MARGIN + ["samples/too_large.rows"], REFUSED, stored("too_large.expected"))
-    expect("run samples/margin.module", REFUSED, placed(64) + after(196, 0x10080) + TRAP + INCOMPLETE)
+    expect("run samples/margin.module", REFUSED, placed(64) + after(196, 0x10080) + TRAP + incomplete((60, 4, "store")))
+
+
+def test_cells():
+    """The cell of a row that is given, by any of its bytes; a bundle with SB 9,0(8) and then a Trap."""
+    cells = [(0, ", the quantity of row 1"), (3, ", the quantity of row 1"), (4, ", the cost of row 1"), (11, ", the price of row 1"),
+             (12, ", the margin of row 1"), (31, ", the margin of row 2"), (32, ", the quantity of row 3"), (47, ", the margin of row 3"),
+             (48, ""), (63, "")]
+    write("tried.rows", "1 2 3\n" * 3)
+    for place, cell in cells:
+        expect(["run", module(guarded(0xA1090000, 63, place) + [TRAP_WORD], 32), "--rows", "tried.rows"], REFUSED,
+               placed(8) + after(4, 0x10010) + TRAP + incomplete((place, 1, "store"), cell=cell))
+    # nothing was used
+    expect(["run", module([TRAP_WORD]), "--rows", "tried.rows"], REFUSED, placed(4) + after(0, 0x10000) + TRAP + incomplete())
 
 
 NOT_NUMBERS, NOT_32 = "not three whole numbers", "a number is not from -2147483648 to 2147483647"
@@ -112,7 +129,7 @@ def test_bad_rows():
 
 
 def row_object(numbers):
-    return dict(zip(("quantity", "cost", "price", "margin"), numbers))
+    return dict(zip(CELLS, numbers))
 
 
 def number_line(numbers):
@@ -173,11 +190,13 @@ def test_object_bytes():
            # margins -5 and -2, sales 1000 - 2; -7 * 10000 / 998 is -70.14
            '{"event":"start","file":"samples/margin.module","words":64,"code_base":65536,"data_base":131072,"data_size":64}\n'
            '{"event":"end","complete":true,"steps":334,"address":65740,"number":46,"exit":"System Call","code":1,'
+           '"access":{"address":131132,"place":60,"width":4,"store":true},'
            '"rows":[{"quantity":1,"cost":1005,"price":1000,"margin":-5},{"quantity":2,"cost":0,"price":-1,"margin":-2}],'
            '"total":-7,"rate":-70}\n')
     expect(MARGIN + ["samples/too_large.rows", "--json"], REFUSED,
            '{"event":"start","file":"samples/margin.module","words":64,"code_base":65536,"data_base":131072,"data_size":64}\n'
-           '{"event":"end","complete":false,"steps":72,"address":65768,"number":48,"exit":"Trap"}\n')
+           '{"event":"end","complete":false,"steps":72,"address":65768,"number":48,"exit":"Trap",'
+           '"access":{"address":131096,"place":24,"width":4,"store":false}}\n')
 
 
 def fits(number):
@@ -191,45 +210,46 @@ def divided(number, by):
 
 
 def calculated(rows):
-    """The margins, the total and the rate of a table; or the steps, the address and the exit where the first number does not fit.
-    Where each stands is worked out above STOPPED."""
+    """The margins, the total and the rate of a table; or the steps, the address, the exit and the last access where the first number
+    does not fit. Where each stands is worked out above STOPPED."""
     total, sales, margins = 0, 0, []
     for i, (quantity, cost, price) in enumerate(rows):
-        begin = 4 + 48 * i
+        begin, loaded, stored_margin = 4 + 48 * i, (16 * i + 8, 4, "load"), (16 * i + 12, 4, "store")
         margin = (price - cost) * quantity
         if not fits(price - cost):
-            return begin + 11, 0x1003C, OVERFLOW
+            return begin + 11, 0x1003C, OVERFLOW, loaded
         if not fits(margin):
-            return begin + 20, 0x100E8, TRAP
+            return begin + 20, 0x100E8, TRAP, loaded
         margins.append(margin)
         total += margin
         if not fits(total):
-            return begin + 29, 0x1005C, OVERFLOW
+            return begin + 29, 0x1005C, OVERFLOW, stored_margin
         if not fits(price * quantity):
-            return begin + 38, 0x100E8, TRAP
+            return begin + 38, 0x100E8, TRAP, stored_margin
         sales += price * quantity
         if not fits(sales):
-            return begin + 44, 0x10070, OVERFLOW
+            return begin + 44, 0x10070, OVERFLOW, stored_margin
     return rated(margins, total, sales)
 
 
 def rated(margins, total, sales):
     """The rate is divided out digit by digit: of a digit, the first product's Trap comes after 2 + 4 steps, the second's 16 later,
-    and the sum at word 47 after 29."""
+    and the sum at word 47 after 29. The last access is the store of the fourth row's margin."""
+    last = (60, 4, "store")
     if sales == 0:
-        return 196, 0x10080, TRAP
+        return 196, 0x10080, TRAP, last
     rate = divided(total, sales)
     rest = total - rate * sales
     for digit in range(4):
         begin = 202 + 33 * digit
         if not fits(10 * rate):
-            return begin + 6, 0x100E8, TRAP
+            return begin + 6, 0x100E8, TRAP, last
         if not fits(10 * rest):
-            return begin + 20, 0x100E8, TRAP
+            return begin + 20, 0x100E8, TRAP, last
         more = divided(10 * rest, sales)
         rest, rate = 10 * rest - more * sales, 10 * rate + more
         if not fits(rate):
-            return begin + 29, 0x100BC, OVERFLOW
+            return begin + 29, 0x100BC, OVERFLOW, last
     equal("run samples/margin.module", "the rate digit by digit and at once", divided(10000 * total, sales), rate)
     return margins, total, rate
 
@@ -262,13 +282,15 @@ def expect_report(rows, as_objects):
     came = calculated(rows)
     arguments = MARGIN + [write("tried.rows", "".join("%d %d %d\n" % row for row in rows))]
     if came[2] in (OVERFLOW, TRAP):
-        steps, address, what = came
-        end = end_object(False, steps, address, {OVERFLOW: 40, TRAP: 48}[what], what)
-        text, status = after(steps, address) + what + INCOMPLETE, REFUSED
+        steps, address, what, access = came
+        row, cell = divmod(access[0], 16)
+        named = ", the %s of row %d" % (CELLS[cell // 4], row + 1) if row < len(rows) else ""
+        end = end_object(False, steps, address, {OVERFLOW: 40, TRAP: 48}[what], what, access)
+        text, status = after(steps, address) + what + incomplete(access, cell=named), REFUSED
     else:
         margins, total, rate = came
         table = [row + (margin,) for row, margin in zip(rows, margins)]
-        end = end_object(True, 334, 0x100CC, 46, "System Call", code=1,
+        end = end_object(True, 334, 0x100CC, 46, "System Call", (60, 4, "store"), code=1,
                          rows=[row_object(row) for row in table], total=total, rate=rate)
         text = (after(334, 0x100CC) + COMPLETE + HEADING + "".join(number_line(row) for row in table)
                 + "total margin %d, rate %s %%\n" % (total, rate_text(rate)))

@@ -7,10 +7,8 @@ from modules import DATA_BASE, DATA_SIZE, JUMP, LARGEST, TRAP, image, module
 from program import DONE, NOT_DONE, REFUSED, expect, write
 
 HERE = os.path.dirname(os.path.abspath(__file__))
-INCOMPLETE = "; the report is not complete\n"
 COMPLETE = "the report is complete\n"
 NONE_LEFT = "asks for a figure, none are left; " + COMPLETE
-SPENT = "still running, and its budget is spent" + INCOMPLETE
 M = [0x3108003C, 0x011A4025, 0xAD090000, 0x0000000C, 0, 0, JUMP, 0]
 SYSCALL_0, SYSCALL_1 = 0x0000000C, 0x0000004C
 
@@ -24,6 +22,22 @@ def placed(words, code_base="0x10000", data_size=DATA_SIZE, data_base="0x20000")
 
 def after(steps, address):
     return "after %d steps, at 0x%x: " % (steps, address)
+
+
+def access_text(access, data_base=DATA_BASE):
+    """An access is its place in the data area, its width and what it is."""
+    place, width, what = access
+    return "%s of %s at 0x%x, place %d" % (what, "1 byte" if width == 1 else "%d bytes" % width, data_base + place, place)
+
+
+def incomplete(access=None, data_base=DATA_BASE, cell=""):
+    """The end of a run that is stopped, with its last access; in a table, the cell follows."""
+    last = access_text(access, data_base) + " of the data area" + cell if access else "none"
+    return "; the report is not complete\nlast access: %s\n" % last
+
+
+def spent(access=None, cell=""):
+    return "still running, and its budget is spent" + incomplete(access, cell=cell)
 
 
 def data_text(words, count=DATA_SIZE // 4):
@@ -74,8 +88,8 @@ def test_no_module():
 
 def test_largest_and_smallest():
     """61 times through all 16,384 words, and 576 more; 250,000 times through four."""
-    expect(["run", module([], LARGEST)], REFUSED, placed(16384) + after(1000000, 0x10900) + SPENT)
-    expect(["run", module([], 16)], REFUSED, placed(4) + after(1000000, 0x10000) + SPENT)
+    expect(["run", module([], LARGEST)], REFUSED, placed(16384) + after(1000000, 0x10900) + spent())
+    expect(["run", module([], 16)], REFUSED, placed(4) + after(1000000, 0x10000) + spent())
 
 
 # The first two words of a module of four, and what ends its run.
@@ -95,9 +109,9 @@ ENDINGS = [
 
 def test_endings():
     for words, steps, address, what in ENDINGS:
-        expect(["run", module(words)], REFUSED, placed(4) + after(steps, address) + what + INCOMPLETE)
+        expect(["run", module(words)], REFUSED, placed(4) + after(steps, address) + what + incomplete())
     # a slot: words 0 to 2 and then the Trap at word 3, which is J's slot
-    expect(["run", module([0, 0, JUMP, TRAP])], REFUSED, placed(4) + after(3, 0x1000C) + "Trap" + INCOMPLETE)
+    expect(["run", module([0, 0, JUMP, TRAP])], REFUSED, placed(4) + after(3, 0x1000C) + "Trap" + incomplete())
 
 
 # The first two words of modules that are refused. They are not run: the first word would end any of them by a Trap.
@@ -232,17 +246,17 @@ def test_budgets():
     steps, and is reached with a budget of 32."""
     figures = "--figures samples/m.figures"
     begin = "\n".join(stored("m.expected").split("\n")[:5]) + "\n"
-    spent = {0: 0x10000, 1: 0x10004, 2: 0x10008, 3: 0x1000C}
-    for budget, address in spent.items():
-        expect("run samples/m.module %s --budget %d" % (figures, budget), REFUSED, placed(8) + after(budget, address) + SPENT)
+    first = (0, 4, "store")
+    for budget, address, access in ((0, 0x10000, None), (1, 0x10004, None), (2, 0x10008, None), (3, 0x1000C, first)):
+        expect("run samples/m.module %s --budget %d" % (figures, budget), REFUSED, placed(8) + after(budget, address) + spent(access))
     expect("run samples/m.module %s --budget 4" % figures, REFUSED, placed(8) + after(3, 0x1000C)
-           + "asks for a figure, gets 1250 for place 0\n" + after(4, 0x10014) + SPENT)
-    expect("run samples/m.module %s --budget 31" % figures, REFUSED, begin + after(31, 0x1000C) + SPENT)
+           + "asks for a figure, gets 1250 for place 0\n" + after(4, 0x10014) + spent(first))
+    expect("run samples/m.module %s --budget 31" % figures, REFUSED, begin + after(31, 0x1000C) + spent((12, 4, "store")))
     for budget in ("32", "0x20", "0X20", "00032", "4294967296", "4294967297", "0x100000001", "18446744073709551615"):
         expect("run samples/m.module %s --budget %s" % (figures, budget), DONE, stored("m.expected"))
-    # the margin report comes after 334 steps, at word 51
+    # the margin report comes after 334 steps, at word 51; its last access is the store of the fourth row's margin
     rows = "run samples/margin.module --rows samples/margin.rows --budget "
-    expect(rows + "334", REFUSED, placed(64) + after(334, 0x100CC) + SPENT)
+    expect(rows + "334", REFUSED, placed(64) + after(334, 0x100CC) + spent((60, 4, "store"), ", the margin of row 4"))
     expect(rows + "335", DONE, stored("margin.expected"))
 
 
@@ -251,12 +265,12 @@ def test_long_runs():
     program takes ten million steps at a time."""
     name = module([0, 0, 0, 0, 0, 0, 0x08004001, 0], 32)
     for budget in (9999999, 10000000, 10000001, 16777216, 20000003):
-        expect(["run", "--budget", str(budget), name], REFUSED, placed(8) + after(budget, 0x10004 + 4 * ((budget - 1) % 7)) + SPENT)
+        expect(["run", "--budget", str(budget), name], REFUSED, placed(8) + after(budget, 0x10004 + 4 * ((budget - 1) % 7)) + spent())
     # LUI 5,0x40 and 4,194,304 times ADDIU 5,5,-1; BNE 5,0,-2; nothing: 1 + 3 * 4194304 steps, and then the Trap at word 4
     name = module([0x3C050040, 0x24A5FFFF, 0x14A0FFFE, 0, TRAP], 32)
-    expect(["run", "--budget", "20000000", name], REFUSED, placed(8) + after(12582913, 0x10010) + "Trap" + INCOMPLETE)
-    expect(["run", "--budget", "12582913", name], REFUSED, placed(8) + after(12582913, 0x10010) + SPENT)
-    expect(["run", "--budget", "12582914", name], REFUSED, placed(8) + after(12582913, 0x10010) + "Trap" + INCOMPLETE)
+    expect(["run", "--budget", "20000000", name], REFUSED, placed(8) + after(12582913, 0x10010) + "Trap" + incomplete())
+    expect(["run", "--budget", "12582913", name], REFUSED, placed(8) + after(12582913, 0x10010) + spent())
+    expect(["run", "--budget", "12582914", name], REFUSED, placed(8) + after(12582913, 0x10010) + "Trap" + incomplete())
     # the same with SYSCALL 0: the steps before and after the figure are counted together, 12582913 and then two nothings, J, its
     # slot and it all again
     name = module([0x3C050040, 0x24A5FFFF, 0x14A0FFFE, 0, SYSCALL_0, 0, JUMP, 0], 32)
@@ -265,7 +279,50 @@ def test_long_runs():
     expect(["run", "--budget", "30000000", "--figures", "tried.figures", name], DONE, placed(8) + after(12582913, 0x10010)
            + "asks for a figure, gets 5 for place 0\n" + after(second, 0x10010) + NONE_LEFT + data_text([]))
     expect(["run", "--budget", str(second), "--figures", "tried.figures", name], REFUSED, placed(8) + after(12582913, 0x10010)
-           + "asks for a figure, gets 5 for place 0\n" + after(second, 0x10010) + SPENT)
+           + "asks for a figure, gets 5 for place 0\n" + after(second, 0x10010) + spent())
+
+
+# LB, LBU, LH, LHU, LW, LL, SB, SH and SW with register 9 and base 8, their width and what they are; and SC.
+ACCESSES = [
+    (0x81090000, 1, "load"), (0x91090000, 1, "load"), (0x85090000, 2, "load"), (0x95090000, 2, "load"), (0x8D090000, 4, "load"),
+    (0xC1090000, 4, "load"), (0xA1090000, 1, "store"), (0xA5090000, 2, "store"), (0xAD090000, 4, "store"),
+]
+SC = 0xE1090000
+
+
+def guarded(access, mask, value):
+    """A bundle: ADDIU 5,0,value; ANDI 8,5,mask; OR 8,8,26; and the access, with its offset."""
+    return [0x24050000 | value, 0x30A80000 | mask, 0x011A4025, access]
+
+
+def test_last_access():
+    """A bundle with the access, and the Trap at word 4: at the first place, the last one, and 24 and an offset of 20."""
+    for word, width, what in ACCESSES:
+        for mask, value, offset, place in ((64 - width, 0, 0, 0), (64 - width, 63, 0, 64 - width), (28, 24, 20, 44)):
+            expect(["run", module(guarded(word | offset, mask, value) + [TRAP], 32)], REFUSED,
+                   placed(8) + after(4, 0x10010) + "Trap" + incomplete((place, width, what)))
+    # SC stores only after LL, and is no access where it does not
+    expect(["run", module(guarded(SC, 60, 8) + [TRAP], 32)], REFUSED, placed(8) + after(4, 0x10010) + "Trap" + incomplete())
+    expect(["run", module(guarded(0xC1090000, 60, 8) + guarded(SC, 60, 16) + [TRAP], 64)], REFUSED,
+           placed(16) + after(8, 0x10020) + "Trap" + incomplete((16, 4, "store")))
+    expect(["run", module(guarded(0xA1090000, 63, 7) + guarded(SC, 60, 16) + [TRAP], 64)], REFUSED,
+           placed(16) + after(8, 0x10020) + "Trap" + incomplete((7, 1, "store")))
+    # another layout
+    expect(["run", "--data-base", "0x8000", "--data-size", "0x4000", module(guarded(0xA5090000, 0x3FFE, 0x2468) + [TRAP], 32)], REFUSED,
+           placed(8, data_size=0x4000, data_base="0x8000") + after(4, 0x10010) + "Trap" + incomplete((0x2468, 2, "store"), 0x8000))
+
+
+def test_last_access_is_kept():
+    """Through steps without one: past a figure, and past ten million steps, which the program takes at a time. From word 4 on, four
+    words go round."""
+    write("tried.figures", "5")
+    name = module(guarded(0xA1090000, 63, 63) + [SYSCALL_0, TRAP], 32)
+    expect(["run", name, "--figures", "tried.figures"], REFUSED, placed(8) + after(4, 0x10010) + "asks for a figure, gets 5 for place 0\n"
+           + after(4, 0x10014) + "Trap" + incomplete((63, 1, "store")))
+    name = module(guarded(0x85090000, 62, 10) + [0, 0, 0x08004004, 0], 32)
+    for budget in (4, 5, 10000000, 10000001, 20000004):
+        expect(["run", "--budget", str(budget), name], REFUSED,
+               placed(8) + after(budget, 0x10010 + 4 * (budget % 4)) + spent((10, 2, "load")))
 
 
 def m_at(base):
@@ -333,19 +390,30 @@ def start_object(name, words, code_base=0x10000, data_base=DATA_BASE, data_size=
     return {"event": "start", "file": name, "words": words, "code_base": code_base, "data_base": data_base, "data_size": data_size}
 
 
-def end_object(complete, steps, address, number, name, **more):
-    return {"event": "end", "complete": complete, "steps": steps, "address": address, "number": number, "exit": name, **more}
+def access_object(access, data_base=DATA_BASE):
+    if access is None:
+        return None
+    place, width, what = access
+    return {"address": data_base + place, "place": place, "width": width, "store": what == "store"}
+
+
+def end_object(complete, steps, address, number, name, access=None, data_base=DATA_BASE, **more):
+    code = {"code": more.pop("code")} if "code" in more else {}
+    return {"event": "end", "complete": complete, "steps": steps, "address": address, "number": number, "exit": name, **code,
+            "access": access_object(access, data_base), **more}
 
 
 def test_objects():
     figures = [1250, 980, 4999, 315]
     given = [{"event": "figure", "steps": 3 + 7 * i, "address": 0x1000C, "place": 4 * i, "figure": f} for i, f in enumerate(figures)]
     objects("run --json samples/m.module --figures samples/m.figures", DONE, [start_object("samples/m.module", 8)] + given
-            + [end_object(True, 31, 0x1000C, 46, "System Call", code=0, data=figures + [0] * 12)])
-    objects("run --json samples/m.module", DONE, [start_object("samples/m.module", 8),
-                                                  end_object(True, 3, 0x1000C, 46, "System Call", code=0, data=[0] * 16)])
+            + [end_object(True, 31, 0x1000C, 46, "System Call", (12, 4, "store"), code=0, data=figures + [0] * 12)])
+    objects("run --json samples/m.module", DONE, [
+        start_object("samples/m.module", 8), end_object(True, 3, 0x1000C, 46, "System Call", (0, 4, "store"), code=0, data=[0] * 16)])
     objects("run --json samples/m.module --budget 3", REFUSED, [start_object("samples/m.module", 8),
-                                                               end_object(False, 3, 0x1000C, 0, None)])
+                                                               end_object(False, 3, 0x1000C, 0, None, (0, 4, "store"))])
+    objects(["run", "--json", module(guarded(0x91090000, 63, 63) + [TRAP], 32)], REFUSED, [
+        start_object("tried.module", 8), end_object(False, 4, 0x10010, 48, "Trap", (63, 1, "load"))])
     numbers = {"Trap": 48, "Breakpoint": 47, "Integer Overflow": 40}
     for words, steps, address, what in ENDINGS:
         end = end_object(False, steps, address, numbers[what], what) if what in numbers else end_object(
@@ -358,7 +426,7 @@ def test_objects():
     objects(arguments, DONE, [
         start_object("tried.module", 8, 0x40, 0x80, 128), {"event": "figure", "steps": 3, "address": 0x4C, "place": 0, "figure": -1},
         {"event": "figure", "steps": 10, "address": 0x4C, "place": 4, "figure": -2147483648},
-        end_object(True, 17, 0x4C, 46, "System Call", code=0, data=[4294967295, 2147483648] + [0] * 30)])
+        end_object(True, 17, 0x4C, 46, "System Call", (4, 4, "store"), 0x80, code=0, data=[4294967295, 2147483648] + [0] * 30)])
     objects("run --json -", REFUSED, [start_object("-", 4), end_object(False, 0, 0x10000, 48, "Trap")], data=image([TRAP]))
 
 
@@ -366,14 +434,14 @@ def test_object_bytes():
     name = module([SYSCALL_0, 0x00000034], 16)
     expect(["run", "--json", name], DONE,
            '{"event":"start","file":"tried.module","words":4,"code_base":65536,"data_base":131072,"data_size":64}\n'
-           '{"event":"end","complete":true,"steps":0,"address":65536,"number":46,"exit":"System Call","code":0,'
+           '{"event":"end","complete":true,"steps":0,"address":65536,"number":46,"exit":"System Call","code":0,"access":null,'
            '"data":[0,0,0,0,0,0,0,0,0,0,0,0,0,0,0,0]}\n')
     expect(["run", "--json", name, "--figures", write("tried.figures", "-7")], REFUSED,
            '{"event":"start","file":"tried.module","words":4,"code_base":65536,"data_base":131072,"data_size":64}\n'
            '{"event":"figure","steps":0,"address":65536,"place":0,"figure":-7}\n'
-           '{"event":"end","complete":false,"steps":0,"address":65540,"number":48,"exit":"Trap"}\n')
+           '{"event":"end","complete":false,"steps":0,"address":65540,"number":48,"exit":"Trap","access":null}\n')
     expect(["run", "--json", name, "--budget", "0"], REFUSED,
            '{"event":"start","file":"tried.module","words":4,"code_base":65536,"data_base":131072,"data_size":64}\n'
-           '{"event":"end","complete":false,"steps":0,"address":65536,"number":0,"exit":null}\n')
+           '{"event":"end","complete":false,"steps":0,"address":65536,"number":0,"exit":null,"access":null}\n')
     expect(["run", "--json", module([0x42000010])], REFUSED,
            '{"event":"refused","file":"tried.module","verdict":"refuse","number":9,"place":0}\n', refused("tried.module", 9, 0))

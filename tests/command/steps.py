@@ -1,8 +1,8 @@
 """cc100 run --steps: every line and object of a step beside the second emulator's.
 
-The emulator gives the address, the word and all registers, HI and LO after each step. Which of them a step must show is worked out
-here from the word, by document 01 and the public MIPS II instruction set: what the instruction writes, also where its value stays as
-it was, and nothing else; never register 0. The text of an instruction is taken from `cc100 list`, which is compared with GNU
+The emulator gives the address, the word, the access and all registers, HI and LO after each step. Which registers a step must show is
+worked out here from the word, by document 01 and the public MIPS II instruction set: what the instruction writes, also where its value
+stays as it was, and nothing else; never register 0. The text of an instruction is taken from `cc100 list`, which is compared with GNU
 objdump's elsewhere.
 """
 import collections
@@ -12,16 +12,18 @@ import re
 import struct
 
 from listing import ENCODINGS
-from modules import CODE_BASE, JUMP, TRAP, module
+from modules import CODE_BASE, DATA_BASE, JUMP, TRAP, module
 from program import DONE, REFUSED, equal, expect, run, write
-from running import COMPLETE, INCOMPLETE, NONE_LEFT, SPENT, after, data_text, end_object, placed, start_object
+from running import (COMPLETE, NONE_LEFT, access_object, access_text, after, data_text, end_object, incomplete, placed, spent,
+                     start_object)
 
 HI, LO = 32, 33
 NAMES = ["$%d" % i for i in range(32)] + ["hi", "lo"]
 EXITS = {40: "Integer Overflow", 46: "System Call", 47: "Breakpoint", 48: "Trap"}
 MODULES, BUDGET = 70, 400
 
-Step = collections.namedtuple("Step", "address word registers exit")  # registers is None where it exits, and exit where it does not
+# registers is None where it exits, and exit where it does not; access is place, width and what it is, or None
+Step = collections.namedtuple("Step", "address word access registers exit")
 Run = collections.namedtuple("Run", "steps data next")  # the first 16 words of the data at its end, and where it stands unless it ended
 
 
@@ -39,8 +41,10 @@ def emulated(name, budget, figures):
 def step_of(parts):
     address, word = int(parts[0], 16), int(parts[1], 16)
     if parts[2] == "exit":
-        return Step(address, word, None, int(parts[3]))
-    return Step(address, word, [int(part, 16) for part in parts[2:]], None)
+        return Step(address, word, None, None, int(parts[3]))
+    at, width, store = (int(part, 16) for part in parts[2:5])
+    access = (at - DATA_BASE, width, "store" if store else "load") if width else None
+    return Step(address, word, access, [int(part, 16) for part in parts[5:]], None)
 
 
 # Opcodes whose destination is rt: ADDI to LUI, loads, LL, and SC, which says there whether it stored.
@@ -80,7 +84,9 @@ def line_of(step, count, text):
     begin = "%7d  0x%08x  %s|" % (count, step.address, (mnemonic.ljust(8) + operands).ljust(28))
     if step.exit:
         return begin + " exit %d, %s\n" % (step.exit, EXITS[step.exit])
-    return begin + ",".join(" %s = 0x%08x" % (NAMES[place], step.registers[place]) for place in destinations(step.word)) + "\n"
+    written = ",".join(" %s = 0x%08x" % (NAMES[place], step.registers[place]) for place in destinations(step.word))
+    access = (" " if not written else "; ") + access_text(step.access) if step.access else ""
+    return begin + written + access + "\n"
 
 
 def object_of(step, count, text):
@@ -89,7 +95,7 @@ def object_of(step, count, text):
         members["exit"] = step.exit
     else:
         members["written"] = {NAMES[place]: step.registers[place] for place in destinations(step.word)}
-    return members
+    return {**members, "access": access_object(step.access)}
 
 
 def expected_run(name, words, run_by, figures):
@@ -110,20 +116,21 @@ def expected_run(name, words, run_by, figures):
 
 
 def add_end(lines, objects, run_by, count, none_left):
-    """The line and the object of a run's end. At a SYSCALL, the code is bits 25 to 6."""
-    last = run_by.steps[-1] if run_by.steps else Step(0, 0, None, None)
+    """The lines and the object of a run's end. At a SYSCALL, the code is bits 25 to 6."""
+    last = run_by.steps[-1] if run_by.steps else Step(0, 0, None, None, None)
+    access = next((step.access for step in reversed(run_by.steps) if step.access), None)
     code = last.word >> 6 & 0xFFFFF
     if not last.exit:
-        lines.append(after(count, run_by.next) + SPENT)
-        objects.append(end_object(False, count, run_by.next, 0, None))
+        lines.append(after(count, run_by.next) + spent(access))
+        objects.append(end_object(False, count, run_by.next, 0, None, access))
         return REFUSED
     if last.exit == 46 and (code == 1 or code == 0 and none_left):
         lines.append(after(count, last.address) + (COMPLETE if code else NONE_LEFT) + data_text(run_by.data))
-        objects.append(end_object(True, count, last.address, 46, "System Call", code=code, data=run_by.data))
+        objects.append(end_object(True, count, last.address, 46, "System Call", access, code=code, data=run_by.data))
         return DONE
     what = "System Call %d, which is not served here" % code if last.exit == 46 else EXITS[last.exit]
-    lines.append(after(count, last.address) + what + INCOMPLETE)
-    objects.append(end_object(False, count, last.address, last.exit, EXITS[last.exit], **({"code": code} if last.exit == 46 else {})))
+    lines.append(after(count, last.address) + what + incomplete(access))
+    objects.append(end_object(False, count, last.address, last.exit, EXITS[last.exit], access, **({"code": code} if last.exit == 46 else {})))
     return REFUSED
 
 
@@ -173,6 +180,7 @@ SUMS = [1, 2, 54]
 PLAIN = [3, 4, 5, 6, 16, 17, 27, 30, 31, 33, 34, 35, 36, 37, 38, 39, 44, 45, 46, 47, 48, 49, 50, 51, 52, 53, 55, 57, 71, 72]
 TRAPS = [59, 60, 61, 62, 63, 64, 65, 66, 67, 68, 69, 70]
 BRANCHES = [7, 8, 9, 10, 11, 12, 13, 14]
+STORES = {41, 42, 43, 56}
 ACCESSES = {22: 1, 23: 1, 24: 2, 25: 2, 26: 4, 28: 4, 41: 1, 42: 4, 43: 2, 56: 4}
 NEVER_IN_A_MODULE = {29, 32, 40}  # MFC0, MTC0 and RFE
 
@@ -234,15 +242,18 @@ def random_module(rng, count, first):
 def test_random_modules():
     """All kinds are met that an accepted module can have, and each of these: a value written that was there before, SC that stores
     and that does not, a linking branch that is not taken."""
-    rng, met, special = random.Random(20261116), set(), collections.Counter()
+    rng, met, special, accesses = random.Random(20261116), set(), collections.Counter(), set()
     for i in range(MODULES):
         first = drawn(rng, TRAPS[i]) if i < len(TRAPS) else plain(rng)
         name = write("tried.module", struct.pack("<64I", *random_module(rng, 64, first)))
         figures = [rng.getrandbits(32) - 2 ** 31 for _ in range(rng.randrange(6))]
         steps = expect_steps(name, 64, figures, rng.randint(100, BUDGET))
         met.update(kind_of(step.word) for step in steps)
+        accesses.update((kind_of(step.word),) + step.access[1:] for step in steps if step.access)
         special.update(what for before, step in zip(steps, steps[1:]) for what in specials(before, step))
     equal("run --steps", "the kinds that were not met", NEVER_IN_A_MODULE, set(range(1, 73)) - met)
+    equal("run --steps", "accesses that were met", {(kind, width, "store" if kind in STORES else "load") for kind, width in ACCESSES.items()},
+          accesses)
     equal("run --steps", "what was met besides", ["SC 0", "SC 1", "link without a branch", "same value"], sorted(special))
 
 
@@ -251,7 +262,7 @@ def specials(before, step):
         return
     kind = kind_of(step.word)
     if kind == 42:
-        yield "SC %d" % step.registers[step.word >> 16 & 31]
+        yield "SC %d" % (step.access is not None)
     if kind in (9, 13) and (step.registers[step.word >> 21 & 31] >> 31) == (kind == 9):
         yield "link without a branch"
     if any(before.registers[place] == step.registers[place] for place in destinations(step.word)):
@@ -290,11 +301,11 @@ WRITTEN = [
     (0x24000009, "addiu   $0,$0,9             |"),
     (0x30080000, "andi    $8,$0,0x0           | $8 = 0x00000000"),
     (0x011A4025, "or      $8,$8,$26           | $8 = 0x00020000"),
-    (0xC1090000, "ll      $9,0($8)            | $9 = 0x00000000"),
+    (0xC1090000, "ll      $9,0($8)            | $9 = 0x00000000; load of 4 bytes at 0x20000, place 0"),
     (0x00A00011, "mthi    $5                  | hi = 0x00000007"),
     (0x30080000, "andi    $8,$0,0x0           | $8 = 0x00000000"),
     (0x011A4025, "or      $8,$8,$26           | $8 = 0x00020000"),
-    (0xE1050000, "sc      $5,0($8)            | $5 = 0x00000001"),  # it stores 7
+    (0xE1050000, "sc      $5,0($8)            | $5 = 0x00000001; store of 4 bytes at 0x20000, place 0"),  # it stores 7
     (0x00A00013, "mtlo    $5                  | lo = 0x00000001"),
     (0x04B00001, "bltzal  $5,0x10038          | $31 = 0x00010038"),  # not taken; the link is PC + 8
     (0x0000000F, "sync                        |"),
@@ -302,7 +313,7 @@ WRITTEN = [
     (0x00A50018, "mult    $5,$5               | hi = 0x00000000, lo = 0x00000001"),
     (0x30080000, "andi    $8,$0,0x0           | $8 = 0x00000000"),  # word 20
     (0x011A4025, "or      $8,$8,$26           | $8 = 0x00020000"),
-    (0x8D0A0000, "lw      $10,0($8)           | $10 = 0x00000007"),
+    (0x8D0A0000, "lw      $10,0($8)           | $10 = 0x00000007; load of 4 bytes at 0x20000, place 0"),
     (0x240B007C, "addiu   $11,$0,124          | $11 = 0x0000007c"),
     (0x31650070, "andi    $5,$11,0x70         | $5 = 0x00000070"),
     (0x00BB2825, "or      $5,$5,$27           | $5 = 0x00010070"),
@@ -329,13 +340,13 @@ def written_lines(count):
 
 def test_lines():
     name = written_module()
-    expect(["run", "--steps", name], REFUSED, placed(32) + written_lines(26) + after(25, 0x10074) + "Integer Overflow" + INCOMPLETE)
-    # the next step after 15 is JAL's slot, and after 16 its target
-    for budget, word in ((0, 0), (1, 1), (2, 2), (15, 15), (16, 20), (25, 29)):
-        expect(["run", "--steps", name, "--budget", str(budget)], REFUSED,
-               placed(32) + written_lines(budget) + after(budget, CODE_BASE + 4 * word) + SPENT)
-    expect(["run", "--steps", name, "--budget", "26"], REFUSED,
-           placed(32) + written_lines(26) + after(25, 0x10074) + "Integer Overflow" + INCOMPLETE)
+    ended = after(25, 0x10074) + "Integer Overflow" + incomplete((0, 4, "load"))
+    expect(["run", "--steps", name], REFUSED, placed(32) + written_lines(26) + ended)
+    # the next step after 15 is JAL's slot, and after 16 its target; LL is step 7, SC step 11 and LW step 19
+    for budget, word, what in ((0, 0, ""), (1, 1, ""), (6, 6, ""), (7, 7, "load"), (15, 15, "store"), (16, 20, "store"), (25, 29, "load")):
+        expect(["run", "--steps", name, "--budget", str(budget)], REFUSED, placed(32) + written_lines(budget)
+               + after(budget, CODE_BASE + 4 * word) + spent((0, 4, what) if what else None))
+    expect(["run", "--steps", name, "--budget", "26"], REFUSED, placed(32) + written_lines(26) + ended)
 
 
 def test_whole_text():
@@ -343,7 +354,7 @@ def test_whole_text():
 8 words of code at 0x10000, 64 bytes of data at 0x20000
       1  0x00010000  andi    $8,$8,0x3c          | $8 = 0x00000000
       2  0x00010004  or      $8,$8,$26           | $8 = 0x00020000
-      3  0x00010008  sw      $9,0($8)            |
+      3  0x00010008  sw      $9,0($8)            | store of 4 bytes at 0x20000, place 0
       3  0x0001000c  syscall                     | exit 46, System Call
 after 3 steps, at 0x1000c: asks for a figure, none are left; the report is complete
 data: 0 0 0 0 0 0 0 0 0 0 0 0 0 0 0 0
@@ -352,25 +363,28 @@ data: 0 0 0 0 0 0 0 0 0 0 0 0 0 0 0 0
 8 words of code at 0x10000, 64 bytes of data at 0x20000
       1  0x00010000  andi    $8,$8,0x3c          | $8 = 0x00000000
       2  0x00010004  or      $8,$8,$26           | $8 = 0x00020000
-      3  0x00010008  sw      $9,0($8)            |
+      3  0x00010008  sw      $9,0($8)            | store of 4 bytes at 0x20000, place 0
       3  0x0001000c  syscall                     | exit 46, System Call
 after 3 steps, at 0x1000c: asks for a figure, gets -2 for place 0
       4  0x00010010  nop                         |
       5  0x00010014  nop                         |
       6  0x00010018  j       0x10000             |
 after 6 steps, at 0x1001c: still running, and its budget is spent; the report is not complete
+last access: store of 4 bytes at 0x20000, place 0 of the data area
 """)
 
 
 def test_object_bytes():
     expect("run samples/m.module --steps --json --budget 3", REFUSED,
            '{"event":"start","file":"samples/m.module","words":8,"code_base":65536,"data_base":131072,"data_size":64}\n'
-           '{"event":"step","steps":1,"address":65536,"word":822607932,"instruction":"andi $8,$8,0x3c","written":{"$8":0}}\n'
-           '{"event":"step","steps":2,"address":65540,"word":18497573,"instruction":"or $8,$8,$26","written":{"$8":131072}}\n'
-           '{"event":"step","steps":3,"address":65544,"word":2903048192,"instruction":"sw $9,0($8)","written":{}}\n'
-           '{"event":"end","complete":false,"steps":3,"address":65548,"number":0,"exit":null}\n')
+           '{"event":"step","steps":1,"address":65536,"word":822607932,"instruction":"andi $8,$8,0x3c","written":{"$8":0},"access":null}\n'
+           '{"event":"step","steps":2,"address":65540,"word":18497573,"instruction":"or $8,$8,$26","written":{"$8":131072},"access":null}\n'
+           '{"event":"step","steps":3,"address":65544,"word":2903048192,"instruction":"sw $9,0($8)","written":{},'
+           '"access":{"address":131072,"place":0,"width":4,"store":true}}\n'
+           '{"event":"end","complete":false,"steps":3,"address":65548,"number":0,"exit":null,'
+           '"access":{"address":131072,"place":0,"width":4,"store":true}}\n')
     expect(["run", "--json", "--steps", module([0x00000018, 0x0000004D])], REFUSED,
            '{"event":"start","file":"tried.module","words":4,"code_base":65536,"data_base":131072,"data_size":64}\n'
-           '{"event":"step","steps":1,"address":65536,"word":24,"instruction":"mult $0,$0","written":{"hi":0,"lo":0}}\n'
-           '{"event":"step","steps":1,"address":65540,"word":77,"instruction":"break 0x1","exit":47}\n'
-           '{"event":"end","complete":false,"steps":1,"address":65540,"number":47,"exit":"Breakpoint"}\n')
+           '{"event":"step","steps":1,"address":65536,"word":24,"instruction":"mult $0,$0","written":{"hi":0,"lo":0},"access":null}\n'
+           '{"event":"step","steps":1,"address":65540,"word":77,"instruction":"break 0x1","exit":47,"access":null}\n'
+           '{"event":"end","complete":false,"steps":1,"address":65540,"number":47,"exit":"Breakpoint","access":null}\n')

@@ -17,6 +17,7 @@ MILLION = 1000000
 PAUSE = 0.2     # seconds between two lines
 AGAIN = 0.02    # seconds between two looks at a screen
 TRIAL = 50 * MILLION
+NO_ACCESS = b"last access: none\n"
 STARTED = b"4 words of code at 0x10000, 64 bytes of data at 0x20000\n"
 
 
@@ -34,9 +35,10 @@ def lasting(seconds):
 
 
 def spent(budget):
-    """The last line of a run through four words again and again."""
+    """The last lines of a run through four words again and again."""
     place = 0x10000 + 4 * (budget % 4)
-    return b"after %d steps, at 0x%x: still running, and its budget is spent; the report is not complete\n" % (budget, place)
+    return (b"after %d steps, at 0x%x: still running, and its budget is spent; the report is not complete\n" % (budget, place)
+            + NO_ACCESS)
 
 
 def read_all(number):
@@ -104,7 +106,7 @@ def test_exit():
         n //= 2
     steps = 4 * ((2**31 - 1) // n)
     budget = 2**44
-    last = b"after %d steps, at 0x10000: Integer Overflow; the report is not complete\n" % steps
+    last = b"after %d steps, at 0x10000: Integer Overflow; the report is not complete\n" % steps + NO_ACCESS
     expect_progress("run --budget %d %s" % (budget, module([0x21080000 | n])), budget, steps, last, False)
 
 
@@ -115,7 +117,8 @@ def test_json():
     status, shown, rest = at_terminal(arguments, False, True)
     numbers, lines = lines_of_progress(shown, budget)
     out = b'{"event":"start","file":"loop.module","words":4,"code_base":65536,"data_base":131072,"data_size":64}\n' \
-        b'{"event":"end","complete":false,"steps":%d,"address":%d,"number":0,"exit":null}\n' % (budget, 0x10000 + 4 * (budget % 4))
+        b'{"event":"end","complete":false,"steps":%d,"address":%d,"number":0,"exit":null,"access":null}\n' \
+        % (budget, 0x10000 + 4 * (budget % 4))
     compare(arguments, Came(REFUSED, out, lines), Came(status, rest, shown))
     equal(arguments, "lines of progress", True, len(numbers) > 0)
 
@@ -142,7 +145,7 @@ def test_steps():
     """Where the steps themselves are printed there is no line about them, however long it takes."""
     budget = round(0.4 * steps_printed_a_second())
     status, shown, rest = at_terminal("run --steps --budget %d %s" % (budget, module([])), False, True)
-    compare("run --steps", Came(REFUSED, b"", spent(budget)), Came(status, shown, rest.split(b"\n")[-2] + b"\n"))
+    compare("run --steps", Came(REFUSED, b"", spent(budget)), Came(status, shown, b"".join(rest.splitlines(True)[-2:])))
 
 
 def steps_printed_a_second():
@@ -172,14 +175,14 @@ class Screen:
         self.tmux("kill-server")
 
 
-def watch(screen, last):
-    """What is seen in the second line until the last line is there, and the whole screen then."""
+def watch(screen, ending):
+    """What is seen in the second line until the last lines are there, and the whole screen then."""
     seen, until = [], time.monotonic() + 30
     while time.monotonic() < until:
         lines = screen.lines()
-        if last in lines:
+        if ending[-1] in lines:
             return seen, lines
-        if len(lines) > 1 and lines[1] not in seen:
+        if len(lines) > 1 and lines[1] not in seen + ending:
             seen.append(lines[1])
         time.sleep(AGAIN)
     return seen, screen.lines()
@@ -196,10 +199,10 @@ def test_screen():
     if not screen.started:
         skip("the line of progress on a screen: tmux does not start")
         return
-    last = spent(budget).decode().rstrip("\n")
-    seen, lines = watch(screen, last)
+    ending = spent(budget).decode().splitlines()
+    seen, lines = watch(screen, ending)
     screen.end()
-    equal(arguments, "screen at the end", [STARTED.decode().rstrip("\n"), last], lines)
+    equal(arguments, "screen at the end", [STARTED.decode().rstrip("\n")] + ending, lines)
     numbers, _ = lines_of_progress("\n".join(seen).encode(), budget)
     equal(arguments, "lines seen", ["cc100: %d of %d million steps" % (number, budget // MILLION) for number in numbers], seen)
     equal(arguments, "whether a line was seen", True, len(seen) > 0)

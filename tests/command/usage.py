@@ -60,7 +60,8 @@ Checks a module and, where it is accepted, runs it from its first word with the
 rows in its data area. SYSCALL 0 asks for the next figure: its place goes into
 register 8 and the figure into register 9. SYSCALL 1 says that the report is
 complete, with the total in register 8 and the rate in register 9. Anything else
-ends the run, and the report is not complete.
+ends the run, and the report is not complete; the last access to the data area is
+then printed.
 """,
 }
 
@@ -261,12 +262,13 @@ def test_largest_numbers():
         status = DONE if line.startswith("accept") else REFUSED
         for text in ("%d" % number, "%#x" % number):
             expect(["check", "--" + option, text, M], status, line + "\n")
-    # M takes three steps to its system call, and there are no figures.
+    # M takes three steps to its system call, the third a store, and there are no figures.
     started = "8 words of code at 0x10000, 64 bytes of data at 0x20000\nafter 3 steps, at 0x1000c: "
     complete = started + "asks for a figure, none are left; the report is complete\ndata: %s\n" % " ".join(["0"] * 16)
     for text in ("18446744073709551615", "0xffffffffffffffff", "4294967296", "0x100000001", "4"):
         expect(["run", "--budget", text, M], DONE, complete)
-    expect(["run", "--budget", "3", M], REFUSED, started + "still running, and its budget is spent; the report is not complete\n")
+    expect(["run", "--budget", "3", M], REFUSED, started + "still running, and its budget is spent; the report is not complete\n"
+           "last access: store of 4 bytes at 0x20000, place 0 of the data area\n")
     for number in (2**32 - 1, 2**32 - 12):
         expect_wrong(["explain", "--number", "%#x" % number], "%d is no number of a refusal, 1 to 19, or of an exit, 40 to 52" % number)
 

@@ -19,13 +19,15 @@ uint32_t em_load(struct step *s, struct em_instruction i)
     if (!valid(s, address, width))
         return LOAD;
     uint32_t bytes = em_little_endian(s->memory + address, width);
+    s->access = (struct em_access){address, width, 0};
     bool extends_sign = i.kind != LBU && i.kind != LHU;
     if (i.kind == LL)
         s->next.ll = 1;
     return em_set_register(s, i.rt, extends_sign ? (uint32_t)em_signed_number(bytes, 8 * width) : bytes);
 }
 
-/* SC looks at the LL bit and never at the address that LL used; its own address must be valid even where it does not store. */
+/* SC looks at the LL bit and never at the address that LL used; its own address must be valid even where it does not store, which is then no
+   access. */
 uint32_t em_store(struct step *s, struct em_instruction i)
 {
     uint32_t address = em_effective_address(&s->next, i), width = em_access_width(i.kind);
@@ -33,8 +35,7 @@ uint32_t em_store(struct step *s, struct em_instruction i)
         return STORE;
     if (i.kind == SC && s->next.ll == 0)
         return em_set_register(s, i.rt, 0);
-    s->address = address;
-    s->width = width;
+    s->access = (struct em_access){address, width, 1};
     s->value = s->next.registers[i.rt];
     if (i.kind != SC)
         return DONE;

@@ -1,5 +1,5 @@
-/* A second CC100-C machine, reader, writer and checker, written from documents 004 and 01 alone. It shares nothing with the product:
-   neither its Rattle sources nor its C header. It is meant to be read beside the documents, not to be fast.
+/* A second CC100-C machine, reader, writer and checker, written from documents 004 and 01 and ticket 1 of document 02 alone. It shares nothing
+   with the product: neither its Rattle sources nor its C header. It is meant to be read beside the documents, not to be fast.
 
    The numbers that it gives are those of document 01: 0 for done, 1 to 19 for refusals, 40 to 52 for exits. */
 #ifndef EMULATOR_H
@@ -22,9 +22,16 @@ const char *em_name(uint32_t kind);
 struct em_instruction em_read(uint32_t word);
 uint32_t em_write(struct em_instruction i, uint32_t *word); /* 0, or 18 and the word 0 */
 
-/* The calls, on a state of 164 bytes and on memory. A refusal and an exit leave both as they were. */
-uint32_t em_step(uint8_t *state, size_t state_length, uint8_t *memory, size_t memory_length);
-uint32_t em_run(uint8_t *state, size_t state_length, uint8_t *memory, size_t memory_length, uint32_t budget, uint32_t *steps);
+/* The access of a step: `width` bytes at `address`, and `store` is 1 for a store and 0 for a load. No access is three zeros. */
+struct em_access {
+    uint32_t address, width, store;
+};
+
+/* The calls, on a state of 164 bytes and on memory. A refusal and an exit leave both as they were. The access is the one that the step
+   completed, or the last one that the run did. */
+uint32_t em_step(uint8_t *state, size_t state_length, uint8_t *memory, size_t memory_length, struct em_access *access);
+uint32_t em_run(uint8_t *state, size_t state_length, uint8_t *memory, size_t memory_length, uint32_t budget, uint32_t *steps,
+                struct em_access *access);
 uint32_t em_resume(uint8_t *state, size_t state_length, const uint8_t *memory, size_t memory_length);
 
 /* What the step of a state tries, as document 01 says under demand 3: the address that it fetches four bytes from, and where its word is an

@@ -26,13 +26,15 @@ struct machine {
     uint32_t registers[32], hi, lo, pc, next_pc, ll, bad_address, status, cause, return_address;
 };
 
-/* A step under way. An operation changes `next` and names what is to be stored, and nothing else, so that an exit changes nothing. */
+/* A step under way. An operation changes `next` and names its access and what is to be stored, and nothing else, so that an exit changes
+   nothing. */
 struct step {
     uint32_t pc; /* the address of the present instruction */
     struct machine next;
     const uint8_t *memory;
     size_t memory_length;
-    uint32_t address, width, value; /* what is to be stored; width 0 is nothing */
+    struct em_access access;
+    uint32_t value; /* what is to be stored */
 };
 
 typedef uint32_t operation(struct step *s, struct em_instruction i); /* DONE or the exit */

@@ -36,16 +36,20 @@ uint32_t em_make_step(struct step *s, const uint8_t *state, const uint8_t *memor
     return i.kind == 0 ? NO_INSTRUCTION : operations[i.kind](s, i);
 }
 
-uint32_t em_step(uint8_t *state, size_t state_length, uint8_t *memory, size_t memory_length)
+/* A refusal and an exit have no access. */
+uint32_t em_step(uint8_t *state, size_t state_length, uint8_t *memory, size_t memory_length, struct em_access *access)
 {
     struct step s;
     uint32_t answer = em_refused(state, state_length, memory_length);
+    *access = (struct em_access){0, 0, 0};
     if (answer == 0)
         answer = em_make_step(&s, state, memory, memory_length);
     if (answer != 0)
         return answer;
     em_put_state(state, &s.next);
-    em_put_little_endian(memory + s.address, s.width, s.value);
+    if (s.access.store)
+        em_put_little_endian(memory + s.access.address, s.access.width, s.value);
+    *access = s.access;
     return DONE;
 }
 

@@ -1,5 +1,5 @@
 /* Accepted modules are confined, whatever list of calls they get: the product beside the emulator, and a twin whose memory differs outside
-   code and data. What each step tries is looked at before the emulator takes it. */
+   code and data. What each step tries is looked at before the emulator takes it, and the access that an answer carries after it. */
 #include <string.h>
 
 #include "harness.h"
@@ -19,7 +19,8 @@ static struct lent began, twin_began; /* memory as it was at the start */
 
 static struct counts {
     unsigned long modules, calls, steps, accesses[KINDS + 1], first, last, exits[CC100_EXIT_STOP_CORES + 1];
-    unsigned long resumed, refused, changes, jumps[2], spent;
+    unsigned long resumed, refused, changes, jumps[2], spent, carried[KINDS + 1], not_stored;
+    struct handed_on handed_on;
 } counts;
 static uint32_t spent_in_a_row; /* runs since the last exit */
 
@@ -55,73 +56,113 @@ static void count_access(struct em_tried tried, uint32_t kind)
     counts.last += tried.address + tried.width == m.data_base + m.data_size;
 }
 
-/* Document 01's words on what a step tries: its fetch is from the code, its access in the data. */
-static void look_at_step(void)
+static void require_in_data(const char *what, uint64_t address, uint32_t width)
 {
-    struct em_tried tried = em_tried(emulator.state.bytes, emulator.memory.bytes, emulator.memory.length);
-    uint64_t fetch = tried.fetch, address = tried.address;
+    int in_data = address >= m.data_base && address + width <= (uint64_t)m.data_base + m.data_size;
+    same_number(what, 1, (uint64_t)(width == 0 || in_data));
+}
+
+/* Document 01's words on what a step tries: its fetch is from the code, its access in the data. Gives the kind of its word. */
+static uint32_t look_at_step(struct em_tried *tried)
+{
+    *tried = em_tried(emulator.state.bytes, emulator.memory.bytes, emulator.memory.length);
+    uint64_t fetch = tried->fetch;
     int in_code = fetch >= m.code_base && fetch + 4 <= (uint64_t)m.code_base + m.code_size;
-    int in_data = address >= m.data_base && address + tried.width <= (uint64_t)m.data_base + m.data_size;
     now.call = "step tried";
     same_number("fetch is from the code", 1, (uint64_t)in_code);
-    same_number("access is in the data", 1, (uint64_t)(tried.width == 0 || in_data));
+    require_in_data("access is in the data", tried->address, tried->width);
     counts.steps++;
     if (!in_code)
-        return;
-    uint32_t kind = em_read(cc100_get_word(emulator.memory.bytes + tried.fetch)).kind;
-    if (tried.width)
-        count_access(tried, kind);
+        return 0;
+    uint32_t kind = em_read(cc100_get_word(emulator.memory.bytes + tried->fetch)).kind;
+    if (tried->width)
+        count_access(*tried, kind);
     if (kind == JR || kind == JALR)
         counts.jumps[kind == JR]++;
+    return kind;
+}
+
+/* A completed step carries the access that it tried; only SC may carry none. */
+static void look_at_access(const struct em_tried *tried, uint32_t kind, struct em_access access)
+{
+    if (kind == SC && access.width == 0) {
+        counts.not_stored++;
+        return;
+    }
+    same_number("address of the access tried", tried->address, access.address);
+    same_number("width of the access tried", tried->width, access.width);
+    counts.carried[kind] += access.width != 0;
 }
 
 /* Gives the emulator's answer to a step. */
-static uint32_t look_and_step(void)
+static uint32_t look_and_step(struct em_access *access)
 {
-    look_at_step();
-    uint32_t number = em_step(emulator.state.bytes, emulator.state.length, emulator.memory.bytes, emulator.memory.length);
-    if (number == CC100_DONE)
+    struct em_tried tried;
+    uint32_t kind = look_at_step(&tried);
+    uint32_t number = em_step(emulator.state.bytes, emulator.state.length, emulator.memory.bytes, emulator.memory.length, access);
+    now.call = "em_step";
+    if (number == CC100_DONE) {
+        look_at_access(&tried, kind, *access);
         return number;
+    }
     same_number("exit is allowed", 1, (uint64_t)allowed(number));
     if (number <= CC100_EXIT_STOP_CORES)
         counts.exits[number]++;
     return number;
 }
 
-static uint32_t step_of(struct machine *x)
+static void compare_stepped(struct machine *x, uint32_t number, struct em_access access)
 {
-    return cc100_step(x->state.bytes, x->state.length, x->memory.bytes, x->memory.length);
+    now.call = x == &twin ? "cc100_step of the twin" : "cc100_step";
+    cc100_stepped stepped = cc100_step(x->state.bytes, x->state.length, x->memory.bytes, x->memory.length);
+    same_stepped(number, access, stepped);
+    require_in_data("access carried is in the data", stepped.address, stepped.width);
 }
 
 static void call_step(void)
 {
-    uint32_t number = look_and_step();
-    now.call = "cc100_step";
-    same_number("number", number, step_of(&product));
-    same_number("number of the twin", number, step_of(&twin));
+    struct em_access access;
+    uint32_t number = look_and_step(&access);
+    compare_stepped(&product, number, access);
+    compare_stepped(&twin, number, access);
     compare_left("cc100_step");
 }
 
-static void compare_ran(struct machine *x, uint32_t budget, uint32_t number, uint32_t steps)
+static void compare_ran(struct machine *x, uint32_t budget, uint32_t number, uint32_t steps, struct em_access access)
 {
     now.call = x == &twin ? "cc100_run of the twin" : "cc100_run";
     cc100_ran ran = cc100_run(x->state.bytes, x->state.length, x->memory.bytes, x->memory.length, budget);
-    same_number("number", number, ran.number);
-    same_number("steps", steps, ran.steps);
+    same_ran(number, steps, access, ran);
+    require_in_data("access carried is in the data", ran.address, ran.width);
+}
+
+/* Takes the steps of a run by the emulator. Gives the number that they end with. */
+static uint32_t take_steps(uint32_t budget, uint32_t *steps, struct em_access *access)
+{
+    uint32_t number = CC100_DONE;
+    struct em_access latest = {0, 0, 0}, of_step;
+    *access = latest;
+    for (*steps = 0; *steps < budget && (number = look_and_step(&of_step)) == CC100_DONE; ++*steps) {
+        latest = of_step;
+        if (latest.width != 0)
+            *access = latest;
+    }
+    count_handed_on(&counts.handed_on, number, *steps, *access, latest.width != 0);
+    return number;
 }
 
 /* A run that exits is the same under every larger budget, so that the largest can be tried. */
 static void call_run(void)
 {
-    uint32_t budget = below(8) ? below(40) : below(400), number = CC100_DONE, steps = 0;
-    while (steps < budget && (number = look_and_step()) == CC100_DONE)
-        steps++;
+    uint32_t budget = below(8) ? below(40) : below(400), steps;
+    struct em_access access;
+    uint32_t number = take_steps(budget, &steps, &access);
     if (number != CC100_DONE && below(4) == 0)
         budget = UINT32_MAX;
     counts.spent += number == CC100_DONE;
     spent_in_a_row = number == CC100_DONE ? spent_in_a_row + 1 : 0;
-    compare_ran(&product, budget, number, steps);
-    compare_ran(&twin, budget, number, steps);
+    compare_ran(&product, budget, number, steps, access);
+    compare_ran(&twin, budget, number, steps, access);
     compare_left("cc100_run");
 }
 
@@ -132,7 +173,8 @@ static uint32_t resume_of(struct machine *x)
 
 static void call_resume(void)
 {
-    look_at_step();
+    struct em_tried tried;
+    look_at_step(&tried);
     uint32_t number = em_resume(emulator.state.bytes, emulator.state.length, emulator.memory.bytes, emulator.memory.length);
     now.call = "cc100_resume";
     same_number("number", number, resume_of(&product));
@@ -236,8 +278,10 @@ static void try_module(int large)
 static void require_counts(void)
 {
     now.name = "kind of access";
-    for (now.word = 1; now.word <= KINDS; now.word++)
+    for (now.word = 1; now.word <= KINDS; now.word++) {
         at_least("steps that try it", access_width(now.word) ? LEAST : 0, counts.accesses[now.word]);
+        at_least("steps that carry it", access_width(now.word) ? LEAST : 0, counts.carried[now.word]);
+    }
     now.name = "exit";
     for (now.word = CC100_EXIT_INTEGER_OVERFLOW; now.word <= CC100_EXIT_STOP_CORES; now.word++)
         at_least("steps that end in it", allowed(now.word) ? LEAST : 0, counts.exits[now.word]);
@@ -251,6 +295,8 @@ static void require_counts(void)
     at_least("JALR", LEAST, counts.jumps[0]);
     at_least("JR", LEAST, counts.jumps[1]);
     at_least("budgets spent", LEAST, counts.spent);
+    at_least("SC that do not store", LEAST, counts.not_stored);
+    require_handed_on(&counts.handed_on, LEAST);
 }
 
 static unsigned long accesses_of(uint32_t width)
@@ -276,7 +322,9 @@ void test_confined(void)
     }
     require_counts();
     end_part("%lu modules, %lu calls, %lu steps tried; accesses of width 1 %lu, 2 %lu, 4 %lu, at the first byte %lu, at the last %lu; "
-             "register jumps %lu; exits 40 to 48:%s; resumes %lu given, %lu refused; changes by the host %lu",
+             "register jumps %lu; exits 40 to 48:%s; resumes %lu given, %lu refused; changes by the host %lu; SC stored %lu, not %lu; runs "
+             "without an access %lu, with one before an exit %lu, with one before the last step %lu",
              counts.modules, counts.calls, counts.steps, accesses_of(1), accesses_of(2), accesses_of(4), counts.first, counts.last,
-             counts.jumps[0] + counts.jumps[1], listed(counts.exits, 40, 48), counts.resumed, counts.refused, counts.changes);
+             counts.jumps[0] + counts.jumps[1], listed(counts.exits, 40, 48), counts.resumed, counts.refused, counts.changes,
+             counts.carried[SC], counts.not_stored, counts.handed_on.none, counts.handed_on.before_exit, counts.handed_on.earlier);
 }

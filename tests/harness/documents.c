@@ -1,5 +1,5 @@
-/* Document 01's own answers, written down from it by hand: its marked cases C1 to C12, and every example of its refusal table. The emulator
-   is tried on them, as all else here trusts it, and the product and plain C beside it. */
+/* Document 01's own answers, written down from it by hand: its marked cases C1 to C12, and every example of its refusal table; and the accesses
+   that ticket 1 of document 02 asks for. The emulator is tried on them, as all else here trusts it, and the product and plain C beside it. */
 #include <string.h>
 
 #include "harness.h"
@@ -66,10 +66,54 @@ static void try_case(const struct step_case *c)
     }
     expect_place(expected, c->place, c->value);
     expect_place(expected, c->other_place, c->other_value);
-    uint32_t number = compare_step(&emulator, &product);
+    struct em_access access;
+    uint32_t number = compare_step(&emulator, &product, &access);
     now.call = "em_step";
     same_number("number", c->number, number);
     same_bytes("state", expected, emulator.state.bytes, sizeof expected);
+}
+
+/* What a step with register 9 at 0x40, and the LL word, answers and carries. */
+struct access_case {
+    const char *name;
+    uint32_t word, ll, number;
+    struct em_access access;
+};
+
+static const struct access_case access_cases[] = {
+    {"LB 8,3(9)", 0x81280003, 0, 0, {0x43, 1, 0}},
+    {"LBU 8,3(9)", 0x91280003, 0, 0, {0x43, 1, 0}},
+    {"LH 8,2(9)", 0x85280002, 0, 0, {0x42, 2, 0}},
+    {"LHU 8,2(9)", 0x95280002, 0, 0, {0x42, 2, 0}},
+    {"LW 8,-4(9)", 0x8D28FFFC, 0, 0, {0x3C, 4, 0}},
+    {"LL 8,0(9)", 0xC1280000, 0, 0, {0x40, 4, 0}},
+    {"SB 8,3(9)", 0xA1280003, 0, 0, {0x43, 1, 1}},
+    {"SH 8,2(9)", 0xA5280002, 0, 0, {0x42, 2, 1}},
+    {"SW 8,4(9)", 0xAD280004, 0, 0, {0x44, 4, 1}},
+    {"SC 8,0(9)", 0xE1280000, 1, 0, {0x40, 4, 1}},
+    {"SC 8,0(9) that does not store", 0xE1280000, 0, 0, {0, 0, 0}},
+    {"ADDU 8,9,10", 0x012A4021, 1, 0, {0, 0, 0}},
+    {"LW 8,2(9), not aligned", 0x8D280002, 1, 42, {0, 0, 0}},
+    {"LB 8,0x1C0(9), outside memory", 0x812801C0, 1, 42, {0, 0, 0}},
+    {"SC 8,2(9), not aligned", 0xE1280002, 1, 43, {0, 0, 0}},
+    {"SW 8,0x1C0(9), outside memory", 0xAD2801C0, 1, 43, {0, 0, 0}},
+    {"SYSCALL 0", 0x0000000C, 1, 46, {0, 0, 0}},
+};
+
+static void try_access(const struct access_case *c)
+{
+    struct em_access access;
+    now.name = c->name;
+    now.word = c->word;
+    put_case(&(struct step_case){.word = c->word, .r9 = 0x40});
+    set_state(&emulator, CC100_LL, c->ll);
+    copy_machine(&product, &emulator);
+    uint32_t number = compare_step(&emulator, &product, &access);
+    now.call = "em_step";
+    same_number("number", c->number, number);
+    same_number("address of the access", c->access.address, access.address);
+    same_number("width of the access", c->access.width, access.width);
+    same_number("store of the access", c->access.store, access.store);
 }
 
 /* A module of at most eight words in the layout of the examples, with one number of it changed: its verdict. */
@@ -129,6 +173,7 @@ static void try_module(const struct module_case *c)
 static void other_refusals(void)
 {
     uint32_t word = 1, steps = 1;
+    struct em_access access;
     now.name = "18 shift 32";
     now.call = "em_write";
     same_number("number", 18, em_write((struct em_instruction){SLL, 0, 1, 2, 32, 0}, &word));
@@ -136,7 +181,7 @@ static void other_refusals(void)
     same_number("number of cc100_write", 18, cc100_write(SLL, 0, 1, 2, 32, 0).number);
     now.name = "17 PC 2";
     put_case(&(struct step_case){.at = 2});
-    same_number("number of em_run", 17, compare_run(&emulator, &product, 1, &steps));
+    same_number("number of em_run", 17, compare_run(&emulator, &product, 1, &steps, &access));
     same_number("steps of em_run", 0, steps);
     same_number("number of em_resume", 17, compare_resume(&emulator, &product));
     now.name = "19 PC at word 0x00000000";
@@ -151,8 +196,11 @@ void test_documents(void)
     product = machine_for(MEMORY);
     for (size_t i = 0; i < COUNT(step_cases); i++)
         try_case(&step_cases[i]);
+    for (size_t i = 0; i < COUNT(access_cases); i++)
+        try_access(&access_cases[i]);
     for (size_t i = 0; i < COUNT(module_cases); i++)
         try_module(&module_cases[i]);
     other_refusals();
-    end_part("%zu steps and %zu modules with document 01's answers", COUNT(step_cases) + 2, COUNT(module_cases));
+    end_part("%zu steps and %zu modules with document 01's answers, %zu accesses with document 02's", COUNT(step_cases) + 2,
+             COUNT(module_cases), COUNT(access_cases));
 }

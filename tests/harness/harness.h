@@ -62,11 +62,22 @@ void set_state(struct machine *m, uint32_t place, uint32_t word);
 void set_memory(struct machine *m, uint32_t address, uint32_t word);
 void random_state(struct machine *m); /* a lawful one at any PC; all registers have random values */
 
-/* A step, run and resume of the product and of the emulator on their machines, compared in answer, state and memory. The answer that they
-   give is the emulator's. */
-uint32_t compare_step(struct machine *emulator, struct machine *product);
-uint32_t compare_run(struct machine *emulator, struct machine *product, uint32_t budget, uint32_t *steps);
+/* A step, run and resume of the product and of the emulator on their machines, compared in answer, access, state and memory. The answer and
+   access that they give are the emulator's. */
+uint32_t compare_step(struct machine *emulator, struct machine *product, struct em_access *access);
+uint32_t compare_run(struct machine *emulator, struct machine *product, uint32_t budget, uint32_t *steps, struct em_access *access);
 uint32_t compare_resume(struct machine *emulator, struct machine *product);
+
+/* What a step and a run of the product carry, compared with the access that is expected. */
+void same_stepped(uint32_t number, struct em_access access, cc100_stepped came);
+void same_ran(uint32_t number, uint32_t steps, struct em_access access, cc100_ran came);
+
+/* Runs by the access that they hand on: none though they completed steps, one before an exit, and one of a step before the last. */
+struct handed_on {
+    unsigned long none, before_exit, earlier;
+};
+void count_handed_on(struct handed_on *h, uint32_t number, uint32_t steps, struct em_access access, int in_last_step);
+void require_handed_on(const struct handed_on *h, uint64_t least);
 
 /* A run by plain C on its machine, compared with what the emulator has left and answered. */
 void compare_plain_run(struct machine *plain, const struct machine *emulator, uint32_t budget, uint32_t number, uint32_t steps);

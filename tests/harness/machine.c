@@ -108,26 +108,68 @@ void random_state(struct machine *m)
     set_state(m, CC100_NEXT_PC, below(4) ? pc + 4 : random_value(m->memory.length) & ~3u);
 }
 
-uint32_t compare_step(struct machine *emulator, struct machine *product)
+static void same_access(struct em_access expected, struct em_access came)
+{
+    same_number("address of the access", expected.address, came.address);
+    same_number("width of the access", expected.width, came.width);
+    same_number("store of the access", expected.store, came.store);
+}
+
+/* The access of what completes no step is none, whatever the emulator says. */
+static struct em_access completed_by(uint32_t steps, struct em_access access)
+{
+    return steps ? access : (struct em_access){0, 0, 0};
+}
+
+void same_stepped(uint32_t number, struct em_access access, cc100_stepped came)
+{
+    same_number("number", number, came.number);
+    same_access(access, (struct em_access){came.address, came.width, came.store});
+}
+
+void same_ran(uint32_t number, uint32_t steps, struct em_access access, cc100_ran came)
+{
+    same_number("number", number, came.number);
+    same_number("steps", steps, came.steps);
+    same_access(access, (struct em_access){came.address, came.width, came.store});
+}
+
+uint32_t compare_step(struct machine *emulator, struct machine *product, struct em_access *access)
 {
     const struct lent *s = &product->state, *m = &product->memory;
-    uint32_t number = em_step(emulator->state.bytes, s->length, emulator->memory.bytes, m->length);
+    uint32_t number = em_step(emulator->state.bytes, s->length, emulator->memory.bytes, m->length, access);
+    now.call = "em_step";
+    same_access(completed_by(number == CC100_DONE, *access), *access);
     now.call = "cc100_step";
-    same_number("number", number, cc100_step(s->bytes, s->length, m->bytes, m->length));
+    same_stepped(number, *access, cc100_step(s->bytes, s->length, m->bytes, m->length));
     same_machine(emulator, product);
     return number;
 }
 
-uint32_t compare_run(struct machine *emulator, struct machine *product, uint32_t budget, uint32_t *steps)
+uint32_t compare_run(struct machine *emulator, struct machine *product, uint32_t budget, uint32_t *steps, struct em_access *access)
 {
     const struct lent *s = &product->state, *m = &product->memory;
-    uint32_t number = em_run(emulator->state.bytes, s->length, emulator->memory.bytes, m->length, budget, steps);
+    uint32_t number = em_run(emulator->state.bytes, s->length, emulator->memory.bytes, m->length, budget, steps, access);
+    now.call = "em_run";
+    same_access(completed_by(*steps, *access), *access);
     now.call = "cc100_run";
-    cc100_ran ran = cc100_run(s->bytes, s->length, m->bytes, m->length, budget);
-    same_number("number", number, ran.number);
-    same_number("steps", *steps, ran.steps);
+    same_ran(number, *steps, *access, cc100_run(s->bytes, s->length, m->bytes, m->length, budget));
     same_machine(emulator, product);
     return number;
+}
+
+void count_handed_on(struct handed_on *h, uint32_t number, uint32_t steps, struct em_access access, int in_last_step)
+{
+    h->none += steps > 0 && access.width == 0;
+    h->before_exit += number != CC100_DONE && access.width != 0;
+    h->earlier += access.width != 0 && !in_last_step;
+}
+
+void require_handed_on(const struct handed_on *h, uint64_t least)
+{
+    at_least("runs whose steps had no access", least, h->none);
+    at_least("runs with an access and then an exit", least, h->before_exit);
+    at_least("runs whose last access was before their last step", least, h->earlier);
 }
 
 uint32_t compare_resume(struct machine *emulator, struct machine *product)

@@ -9,8 +9,9 @@
 #define LEAST_ENDED 100
 #define LEAST_STEPS 1000000
 
-static struct machine emulator, product, plain;
+static struct machine emulator, product, plain, again;
 static unsigned long machines, runs, steps, resumes, not_resumed, ended[CC100_EXIT_STOP_CORES + 1];
+static struct handed_on handed_on;
 
 /* Mostly a legal word. Its constant is often small, so that accesses, branches and jumps stay in memory, and code 15 is not rare. */
 static uint32_t random_word(size_t length)
@@ -44,13 +45,26 @@ static void random_machine(void)
     copy_machine(&product, &emulator);
 }
 
+/* Whether the last of the steps that a run completed had an access itself. They are taken again, from where the run began. */
+static int access_in_last(uint32_t completed)
+{
+    struct em_access access;
+    uint32_t before;
+    em_run(again.state.bytes, again.state.length, again.memory.bytes, again.memory.length, completed - 1, &before, &access);
+    em_step(again.state.bytes, again.state.length, again.memory.bytes, again.memory.length, &access);
+    return access.width != 0;
+}
+
 /* A run and a resume. Gives whether the machine can go on. */
 static int run_and_resume(void)
 {
     uint32_t budget = below(8) ? below(64) : below(4096), completed = 0;
+    struct em_access access;
     copy_machine(&plain, &emulator);
-    uint32_t number = compare_run(&emulator, &product, budget, &completed);
+    copy_machine(&again, &emulator);
+    uint32_t number = compare_run(&emulator, &product, budget, &completed, &access);
     compare_plain_run(&plain, &emulator, budget, number, completed);
+    count_handed_on(&handed_on, number, completed, access, access.width != 0 && access_in_last(completed));
     runs++;
     steps += completed;
     if (number <= CC100_EXIT_STOP_CORES)
@@ -71,6 +85,7 @@ static void require_counts(void)
     at_least("resumes given", LEAST_ENDED, resumes);
     at_least("resumes refused", LEAST_ENDED, not_resumed);
     at_least("steps", LEAST_STEPS, steps);
+    require_handed_on(&handed_on, LEAST_ENDED);
 }
 
 void test_runs(void)
@@ -79,6 +94,7 @@ void test_runs(void)
     emulator = machine_for(LONGEST);
     product = machine_for(LONGEST);
     plain = machine_for(LONGEST);
+    again = machine_for(LONGEST);
     now.name = "machine";
     for (machines = 0; machines < (uint64_t)MACHINES * rounds; machines++) {
         now.turn = machines;
@@ -87,6 +103,7 @@ void test_runs(void)
             now.word = (uint32_t)++run;
     }
     require_counts();
-    end_part("%lu machines, %lu runs of %lu steps, %lu still running; exits 40 to 52:%s; resumes %lu given, %lu refused", machines, runs,
-             steps, ended[0], listed(ended, 40, 52), resumes, not_resumed);
+    end_part("%lu machines, %lu runs of %lu steps, %lu still running; exits 40 to 52:%s; resumes %lu given, %lu refused; runs without an access "
+             "%lu, with one before an exit %lu, with one before the last step %lu", machines, runs, steps, ended[0], listed(ended, 40, 52),
+             resumes, not_resumed, handed_on.none, handed_on.before_exit, handed_on.earlier);
 }

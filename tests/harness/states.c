@@ -18,12 +18,13 @@ static void count_call(uint32_t number)
 static void try_calls(struct machine *emulator, struct machine *product, uint32_t budget)
 {
     uint32_t steps;
+    struct em_access access;
     copy_machine(product, emulator);
     now.turn++;
-    count_call(compare_run(emulator, product, 0, &steps));
+    count_call(compare_run(emulator, product, 0, &steps, &access));
     count_call(compare_resume(emulator, product));
-    count_call(compare_step(emulator, product));
-    count_call(compare_run(emulator, product, budget, &steps));
+    count_call(compare_step(emulator, product, &access));
+    count_call(compare_run(emulator, product, budget, &steps, &access));
 }
 
 /* A lawful state, mostly at a SYSCALL, which a resume is given for. */

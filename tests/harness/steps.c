@@ -9,6 +9,7 @@
 
 static struct machine emulator, product, plain;
 static unsigned long steps, tried[KINDS + 1], completed[KINDS + 1], ended[CC100_EXIT_STOP_CORES + 1];
+static unsigned long carried[KINDS + 1], bare[KINDS + 1]; /* completed steps with an access and without, by the kind at PC */
 
 /* Values of the two source registers. The last ten are counted from the end of memory. */
 static const uint32_t values[] = {
@@ -73,11 +74,11 @@ static void surroundings(void)
 }
 
 /* Takes the step by all three. Gives the emulator's answer. */
-static uint32_t take_step(void)
+static uint32_t take_step(struct em_access *access)
 {
     copy_machine(&product, &emulator);
     copy_machine(&plain, &emulator);
-    uint32_t number = compare_step(&emulator, &product);
+    uint32_t number = compare_step(&emulator, &product, access);
     struct plain_state s = plain_state_of(plain.state.bytes);
     now.call = "plain_step";
     same_number("number", number, plain_step(&s, plain.memory.bytes, plain.memory.length));
@@ -86,17 +87,40 @@ static uint32_t take_step(void)
     return number;
 }
 
+/* PC can be at another word than the one that was placed. */
+static uint32_t kind_at_pc(void)
+{
+    uint64_t pc = state_word(&emulator, CC100_PC);
+    return pc + 4 <= emulator.memory.length ? em_read(cc100_get_word(emulator.memory.bytes + pc)).kind : 0;
+}
+
+/* The access that a completed step carries is of its kind. */
+static void count_access(uint32_t kind, struct em_access access)
+{
+    if (access.width == 0) {
+        bare[kind]++;
+        return;
+    }
+    now.call = "em_step";
+    same_number("width of the kind", (uint64_t)access_width(kind), access.width);
+    same_number("store of the kind", (uint64_t)is_store(kind), access.store);
+    carried[kind]++;
+}
+
 /* Places the word in what surroundings have been made, and takes its step. */
 static void try_word(uint32_t word)
 {
     uint32_t kind = em_read(word).kind;
+    struct em_access access;
     now.turn = steps++;
     now.name = kind ? em_name(kind) : "word";
     now.word = word;
     place_word(word);
-    uint32_t number = take_step();
+    uint32_t at_pc = kind_at_pc(), number = take_step(&access);
     tried[kind]++;
     completed[kind] += number == 0;
+    if (number == 0)
+        count_access(at_pc, access);
     if (number <= CC100_EXIT_STOP_CORES)
         ended[number]++;
 }
@@ -132,6 +156,16 @@ static void random_steps(void)
     }
 }
 
+/* Every completed step of an access carries it, but for SC. */
+static void require_accesses(uint32_t kind)
+{
+    at_least("steps of the kind that carry an access", access_width(kind) ? LEAST_COMPLETED : 0, carried[kind]);
+    if (kind == SC)
+        at_least("SC that do not store", LEAST_COMPLETED, bare[SC]);
+    else if (access_width(kind))
+        same_number("completed steps of the kind that carry none", 0, bare[kind]);
+}
+
 static void require_counts(void)
 {
     for (uint32_t kind = 1; kind <= KINDS; kind++) {
@@ -139,6 +173,7 @@ static void require_counts(void)
         now.name = em_name(kind);
         at_least("steps of the kind", LEAST_OF_A_KIND, tried[kind]);
         at_least("steps of the kind completed", never ? 0 : LEAST_COMPLETED, completed[kind]);
+        require_accesses(kind);
     }
     now.name = "exit";
     for (now.word = CC100_EXIT_INTEGER_OVERFLOW; now.word <= CC100_EXIT_STOP_CORES; now.word++)
@@ -155,5 +190,7 @@ void test_steps(void)
     product_of_edges();
     random_steps();
     require_counts();
-    end_part("%lu steps of 72 kinds, %lu completed; exits 40 to 52:%s", steps, ended[0], listed(ended, 40, 52));
+    end_part("%lu steps of 72 kinds, %lu completed; exits 40 to 52:%s; accesses carried: LB %lu, LBU %lu, LH %lu, LHU %lu, LW %lu, LL %lu, "
+             "SB %lu, SH %lu, SW %lu, SC %lu, SC that do not store %lu", steps, ended[0], listed(ended, 40, 52), carried[LB], carried[LBU],
+             carried[LH], carried[LHU], carried[LW], carried[LL], carried[SB], carried[SH], carried[SW], carried[SC], bare[SC]);
 }

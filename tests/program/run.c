@@ -1,7 +1,7 @@
 /* Runs a compiled C program on the product and compares every figure with what the same C gives natively: program FILE, with figures.words.
    The words have no guards, so that the checker would refuse them: this tests the machine, not the checker.
 
-   The second emulator runs the first tables as well, and must then have the same state and memory, in every byte. */
+   The second emulator runs the first tables as well, and must then have the same last access, and the same state and memory in every byte. */
 #include <inttypes.h>
 #include <stdio.h>
 #include <string.h>
@@ -43,30 +43,37 @@ static void start(struct machine *m, const struct program *p, const struct input
     place_input(m->memory, p, in);
 }
 
-/* Runs to the end in slices that grow, so that runs stop and go on at many places. Gives the number at the end. */
-static uint32_t run_in_slices(struct machine *m, uint32_t slice)
+/* Runs to the end in slices that grow, so that runs stop and go on at many places. Gives the number at the end, and the last access of all
+   slices. */
+static uint32_t run_in_slices(struct machine *m, uint32_t slice, struct em_access *last)
 {
-    cc100_ran ran = {CC100_DONE, 0};
+    cc100_ran ran = {CC100_DONE, 0, 0, 0, 0};
     uint32_t steps = 0;
+    *last = (struct em_access){0, 0, 0};
     while (ran.number == CC100_DONE && steps < BUDGET) {
         ran = cc100_run(m->state, sizeof m->state, m->memory, sizeof m->memory, slice);
         steps += ran.steps;
         slice += slice / 2 + 1;
+        if (ran.width != 0)
+            *last = (struct em_access){ran.address, ran.width, ran.store};
     }
     steps_taken += steps;
     return ran.number;
 }
 
+static bool same_access(struct em_access a, struct em_access b) { return a.address == b.address && a.width == b.width && a.store == b.store; }
+
 /* The second emulator in one run. Gives 1 where it ends otherwise. */
-static unsigned run_both(const struct machine *product, const struct program *p, const struct input *in, uint32_t number)
+static unsigned run_both(const struct machine *product, struct em_access last, const struct program *p, const struct input *in, uint32_t number)
 {
     static struct machine second;
     uint32_t steps;
+    struct em_access access;
     start(&second, p, in);
-    uint32_t end = em_run(second.state, sizeof second.state, second.memory, sizeof second.memory, BUDGET, &steps);
-    if (end == CC100_EXIT_SYSTEM_CALL && memcmp(product, &second, sizeof second) == 0)
+    uint32_t end = em_run(second.state, sizeof second.state, second.memory, sizeof second.memory, BUDGET, &steps, &access);
+    if (end == CC100_EXIT_SYSTEM_CALL && same_access(last, access) && memcmp(product, &second, sizeof second) == 0)
         return 0;
-    printf("DIFFERS second emulator, table %" PRIu32 ": number %" PRIu32 ", or another state or memory\n", number, end);
+    printf("DIFFERS second emulator, table %" PRIu32 ": number %" PRIu32 ", or another access, state or memory\n", number, end);
     return 1;
 }
 
@@ -78,14 +85,15 @@ static unsigned run_table(const struct program *p, uint32_t number, uint32_t *se
     make_table(number, seed, &in);
     native_figures(&in, &native);
     start(&m, p, &in);
-    uint32_t end = run_in_slices(&m, 1 + number % 1000);
+    struct em_access last;
+    uint32_t end = run_in_slices(&m, 1 + number % 1000, &last);
     unsigned different = compare_figures("product", number, &native, m.memory);
     if (end != CC100_EXIT_SYSTEM_CALL) {
         printf("DIFFERS product, table %" PRIu32 ": ends with %" PRIu32 "\n", number, end);
         different++;
     }
     if (number <= TABLES_OF_BOTH)
-        different += run_both(&m, p, &in, number);
+        different += run_both(&m, last, p, &in, number);
     if (number == 0)
         print_figures(&in, &native);
     return different;

@@ -1,13 +1,15 @@
-// An effect carried out on lent registers and memory; the other registers go by value.
+// An effect carried out on lent registers and memory; the other registers go by value. What it touches.
 ghost use mathlib.Core.Path.{_≡_};
 ghost use mathlib.Core.Bool.{true, false};
 ghost use Prim.Native.Nat.{_+_, _%_, _^_, _≤_, _<_};
-ghost use lib.ListN.{length};
+ghost use lib.ListN.{length, set};
 ghost use Rattle.word.specs.Bytes.{loadOf, storeOf};
 ghost use Rattle.effect.specs.Sound.{Performable};
+ghost use Rattle.effect.specs.Touched.{touchedOf, lastOf, Keeps, touchedIn};
 ghost use Rattle.apply.specs.Apply as Spec;
 use effect::effect::Effect;
 use effect::effect::Special;
+use effect::effect::Touched;
 
 fn put(registers: &mut [u32; 32], r: u32, v: u32)
     requires { ⌜ r < 2 ^ 5 ⌝ }
@@ -165,9 +167,23 @@ fn store_linked(
     linked(write(registers, r, 1, c), false)
 }
 
-pub fn apply(e: Effect, c: Special, registers: &mut [u32; 32], memory: &mut [u8]) -> Special
+// The last access is kept in two words, which only the arms of accesses write: that keeps the loop of a run quick.
+fn touch(last: &mut [u32; 2], address: u32, code: u32)
+    ensures { λ _. ⌜ now (last .exit) ≡ set (set (now (last .entry)) 0 address) 1 code ⌝ }
+{
+    last[0] = address;
+    last[1] = code;
+}
+
+pub fn apply(
+    e: Effect,
+    c: Special,
+    registers: &mut [u32; 32],
+    memory: &mut [u8],
+    last: &mut [u32; 2],
+) -> Special
     requires { ⌜ Performable e (length (now memory)) ⌝ }
-    ensures { λ d. ⌜ Spec.parts (now (registers .exit)) d (now (memory .exit)) ≡ Spec.appliedOf e (now (registers .entry)) c (now (memory .entry)) ⌝ }
+    ensures { λ d. ⌜ (Spec.parts (now (registers .exit)) d (now (memory .exit)) ≡ Spec.appliedOf e (now (registers .entry)) c (now (memory .entry))) × ((t : Touched) → Keeps (now (last .entry)) t → Keeps (now (last .exit)) (lastOf t (touchedOf e))) ⌝ }
 {
     match e {
         Effect::Exit(_) => c,
@@ -176,15 +192,52 @@ pub fn apply(e: Effect, c: Special, registers: &mut [u32; 32], memory: &mut [u8]
         Effect::Pair(hi, lo) => pair(advance(c), hi, lo),
         Effect::Jump(target) => jump(c, target),
         Effect::Link(r, v, target) => link(registers, r, v, target, c),
-        Effect::LoadByte(r, a, signed) => write(registers, r, byte(memory, a, signed), c),
-        Effect::LoadHalf(r, a, signed) => write(registers, r, half(memory, a, signed), c),
-        Effect::LoadWord(r, a) => write(registers, r, word_at(memory, a), c),
-        Effect::LoadLinked(r, a) => linked(write(registers, r, word_at(memory, a), c), true),
-        Effect::StoreByte(a, v) => store_byte(memory, a, v, c),
-        Effect::StoreHalf(a, v) => store_half(memory, a, v, c),
-        Effect::StoreWord(a, v) => store_word(memory, a, v, c),
-        Effect::StoreLinked(r, a, v) => store_linked(registers, memory, r, a, v, c),
+        Effect::LoadByte(r, a, signed) => {
+            touch(last, a, 2);
+            write(registers, r, byte(memory, a, signed), c)
+        }
+        Effect::LoadHalf(r, a, signed) => {
+            touch(last, a, 4);
+            write(registers, r, half(memory, a, signed), c)
+        }
+        Effect::LoadWord(r, a) => {
+            touch(last, a, 8);
+            write(registers, r, word_at(memory, a), c)
+        }
+        Effect::LoadLinked(r, a) => {
+            touch(last, a, 8);
+            linked(write(registers, r, word_at(memory, a), c), true)
+        }
+        Effect::StoreByte(a, v) => {
+            touch(last, a, 3);
+            store_byte(memory, a, v, c)
+        }
+        Effect::StoreHalf(a, v) => {
+            touch(last, a, 5);
+            store_half(memory, a, v, c)
+        }
+        Effect::StoreWord(a, v) => {
+            touch(last, a, 9);
+            store_word(memory, a, v, c)
+        }
+        Effect::StoreLinked(r, a, v) => {
+            touch(last, a, 9);
+            store_linked(registers, memory, r, a, v, c)
+        }
         Effect::Control(r, v) => controlled(advance(c), r, v),
         Effect::Return(status) => linked(with_status(advance(c), status), false),
     }
+}
+
+// The access that the two words of `apply` hold.
+pub fn touched(address: u32, code: u32) -> Touched
+    ensures { λ t. ⌜ t ≡ touchedIn address code ⌝ }
+{
+    if code == 0 {
+        return Touched::Nothing;
+    }
+    if code % 2 == 0 {
+        return Touched::Load(address, code / 2);
+    }
+    Touched::Store(address, code / 2)
 }

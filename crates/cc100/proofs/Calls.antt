@@ -1,5 +1,5 @@
 -- The theorems about step, run and resume on bytes: what a refused call leaves, and that the others do what the machine does.
-use Prim.Native.Nat.{ℕ, _<_, _≤_}
+use Prim.Native.Nat.{ℕ, _/_, _%_, _<_, _≤_}
 use mathlib.Core.Path.{_≡_, refl, sym, ap, _∙_}
 use mathlib.Core.Bool.{Bool, true, false}
 use mathlib.Core.List.{List}
@@ -12,16 +12,21 @@ use Rattle.word.proofs.Choice.{by-zero}
 use Rattle.machine.specs.declared.state.State.{State}
 use Rattle.word.specs.Bytes.{longest}
 use Rattle.machine.specs.State.{refusalOf, Bytes}
-use Rattle.machine.specs.Step.{Outcome, outcome, stepOf}
-use Rattle.machine.specs.Run.{course, runOf}
+use Rattle.effect.specs.declared.effect.Touched.{Touched}
+use Rattle.effect.specs.declared.effect.Touched.the-variants.{Nothing}
+use Rattle.effect.specs.Touched.{cell, cellOf}
+use Rattle.effect.proofs.Touched.{held-cell}
+use Rattle.machine.specs.Step.{Outcome, stepped, outcome, stepOf}
+use Rattle.machine.specs.Run.{course, Reaches, runOf}
 use Rattle.machine.specs.Resume.{resumeOf}
 use Rattle.machine.proofs.Steps.{step-refused, exit-leaves}
+use Rattle.machine.proofs.Touches.{touched-exits}
 use Rattle.machine.proofs.Runs.{run-refused, run-numbers}
 use Rattle.machine.proofs.Resumes.{resume-refused, resume-leaves}
 use Rattle.codec.specs.declared.decode.Decoded.{Decoded}
 use Rattle.codec.specs.Bytes.{isState, stateOf, bytesOf, decoded, decodedOf, encoded, encodedOf}
 use Rattle.codec.proofs.RoundTrip.{state-length, state-typed, bytes-state}
-use Rattle.cc100.specs.Calls.{callRefusal, readStateOf, Answer, answer, answered, callOf, stepCall, resumeCall, RunAnswer, runAnswer, runAnswered, runCall}
+use Rattle.cc100.specs.Calls.{callRefusal, readStateOf, Answer, stepAnswer, answer, answered, callOf, stepCall, resumeCall, RunAnswer, runAnswer, runAnswered, runCall}
 
 -- ---- what the calls read, by what the code finds
 
@@ -90,7 +95,7 @@ module _ (b m : List ℕ) (r : Decoded) (given : r ≡ readStateOf b (length m))
   unfolding callOf
   call-refused n o = rw (← number, ne-eqb (r .number) 0 n)
 
-  pub run-call-refused : (r .number ≡ 0 → ⊥) → (budget : ℕ) → runAnswer (r .number) 0 b m ≡ runCall b m budget
+  pub run-call-refused : (r .number ≡ 0 → ⊥) → (budget : ℕ) → runAnswer (r .number) 0 (cellOf Nothing) b m ≡ runCall b m budget
   unfolding runCall
   run-call-refused n budget = rw (← number, ne-eqb (r .number) 0 n)
 
@@ -111,19 +116,20 @@ module _ (b m : List ℕ) (r : Decoded) (given : r ≡ readStateOf b (length m))
         let e : outcome k t m ≡ f (stateOf b) = h ∙ rw lent in
         let q : k ≡ f (stateOf b) .number = ap (λ x. x .number) e in
         let l = v (stateOf b) (λ y. n (q ∙ y)) in
-        rw (served, l, ← q, bytes-state b g whole)
+        rw (served, l, ← q, ← (ap (λ x. x .touched) e), bytes-state b g whole)
 
     module _ (t : State) (x : List ℕ) (k : ℕ) (left : encoded k x ≡ encodedOf t b) where
       bytes : x ≡ bytesOf t
       bytes = encode-bytes t b x k whole left
 
-      pub call-done : (f : State → Outcome) (o : ℕ) (y : List ℕ) → outcome o t y ≡ f (r .state) → answer o x y ≡ callOf b m (f (stateOf b))
+      pub call-done : (f : State → Outcome) (o : ℕ) (c : Touched) (y : List ℕ) → stepped o c t y ≡ f (r .state) → stepAnswer o (cellOf c) x y ≡ callOf b m (f (stateOf b))
       unfolding callOf
-      call-done f o y h = rw (served, bytes) (ap answered h ∙ rw lent)
+      call-done f o c y h = rw (served, bytes) (ap answered h ∙ rw lent)
 
-      pub run-call-done : (o n : ℕ) (y : List ℕ) (budget : ℕ) → course o n t y ≡ runOf (r .state) m budget → runAnswer o n x y ≡ runCall b m budget
+      pub run-call-done : (o n a c : ℕ) (y : List ℕ) (budget : ℕ) → Reaches o n a c t y (runOf (r .state) m budget) → runAnswer o n (cell a (c / 2) (c % 2)) x y ≡ runCall b m budget
       unfolding runCall
-      run-call-done o n y budget h = rw (served, bytes) (ap runAnswered h ∙ rw lent)
+      run-call-done o n a c y budget (h, k) =
+          rw (held-cell a c (runOf (r .state) m budget .touched) k, served, bytes) (ap runAnswered h ∙ rw lent)
 
 -- ---- the calls do what the machine does, refused or not
 
@@ -172,9 +178,18 @@ module _ (b m : List ℕ) (g : Bytes b) where
   pub resume-call-leaves : (resumeCall b m .number ≡ 0 → ⊥) → (resumeCall b m .state ≡ b) × (resumeCall b m .memory ≡ m)
   resume-call-leaves = call-leaves (resumeOf (stateOf b) m) (resume-leaves (stateOf b) m)
 
-  -- a refused run, which its number tells, left both as they were, and completed no step
+  -- and carried no access
+  abbrev Bare : Answer → Type 0
+  Bare r = (r .number ≡ 0 → ⊥) → r .touched ≡ cellOf Nothing
+
+  pub step-call-bare : (stepCall b m .number ≡ 0 → ⊥) → stepCall b m .touched ≡ cellOf Nothing
+  unfolding callOf
+  step-call-bare =
+      by-zero Bare (callRefusal b (length m)) (λ _ n. ap cellOf (touched-exits (stateOf b) m n)) (λ _ _. refl)
+
+  -- a refused run, which its number tells, left both as they were, completed no step and carried no access
   abbrev Unrun : RunAnswer → Type 0
-  Unrun r = (r .number ≡ 0 → ⊥) → r .number < 40 → (r .steps ≡ 0) × ((r .state ≡ b) × (r .memory ≡ m))
+  Unrun r = (r .number ≡ 0 → ⊥) → r .number < 40 → ((r .steps ≡ 0) × (r .touched ≡ cellOf Nothing)) × ((r .state ≡ b) × (r .memory ≡ m))
 
   ran : Bytes m → (budget : ℕ) → callRefusal b (length m) ≡ 0 → Unrun (runAnswered (runOf (stateOf b) m budget))
   ran h budget z n l =
@@ -182,7 +197,7 @@ module _ (b m : List ℕ) (g : Bytes b) where
       let k = run-numbers (stateOf b) m (state-typed b g) h budget (sym (same-refusal b m g e) ∙ z) in
       ⊎-elim (λ y. absurd (n y)) (λ y. absurd (omega (arith, y .0, l))) k
 
-  pub run-call-leaves : Bytes m → (budget : ℕ) → (runCall b m budget .number ≡ 0 → ⊥) → runCall b m budget .number < 40 → (runCall b m budget .steps ≡ 0) × ((runCall b m budget .state ≡ b) × (runCall b m budget .memory ≡ m))
+  pub run-call-leaves : Bytes m → (budget : ℕ) → (runCall b m budget .number ≡ 0 → ⊥) → runCall b m budget .number < 40 → ((runCall b m budget .steps ≡ 0) × (runCall b m budget .touched ≡ cellOf Nothing)) × ((runCall b m budget .state ≡ b) × (runCall b m budget .memory ≡ m))
   unfolding runCall
   run-call-leaves h budget =
-      by-zero Unrun (callRefusal b (length m)) (ran h budget) (λ _ _ _. (refl, (refl, refl)))
+      by-zero Unrun (callRefusal b (length m)) (ran h budget) (λ _ _ _. ((refl, refl), (refl, refl)))

@@ -5,6 +5,9 @@ use mathlib.Core.List.{List}
 use lib.Dec.{eqb, ltb}
 use lib.ListN.{length}
 use Rattle.word.specs.Bytes.{longest}
+use Rattle.effect.specs.declared.effect.Touched.the-variants.{Nothing}
+use Rattle.effect.specs.declared.effect.Cell.{Cell}
+use Rattle.effect.specs.Touched.{cellOf}
 use Rattle.machine.specs.State.{refusalOf}
 use Rattle.machine.specs.Step.{Outcome, stepOf}
 use Rattle.machine.specs.Run.{Course, runOf}
@@ -22,17 +25,22 @@ readStateOf b n = decoded (callRefusal b n) (decodedOf b .state)
 
 -- ---- step and resume
 
--- the number that a call answers, and the bytes that it leaves
+-- the number that a call answers, what it touched (a resume nothing), and the bytes that it leaves
 pub record Answer : Type 0 where
   pub number : ℕ
+  pub touched : Cell
   pub state : List ℕ
   pub memory : List ℕ
 
+abbrev pub stepAnswer : ℕ → Cell → List ℕ → List ℕ → Answer
+stepAnswer k t b m = record { number = k; touched = t; state = b; memory = m }
+
+-- a call that completes no step
 abbrev pub answer : ℕ → List ℕ → List ℕ → Answer
-answer k b m = record { number = k; state = b; memory = m }
+answer k b m = stepAnswer k (cellOf Nothing) b m
 
 abbrev pub answered : Outcome → Answer
-answered o = answer (o .number) (bytesOf (o .machine .state)) (o .machine .memory)
+answered o = stepAnswer (o .number) (cellOf (o .touched)) (bytesOf (o .machine .state)) (o .machine .memory)
 
 -- refused, with every byte as it was, or what the machine does
 unfoldable pub callOf : List ℕ → List ℕ → Outcome → Answer
@@ -46,22 +54,24 @@ resumeCall b m = callOf b m (resumeOf (stateOf b) m)
 
 -- ---- run
 
--- the same with the steps completed
+-- the same with the steps completed, and the last access among them
 pub record RunAnswer : Type 0 where
   pub number : ℕ
   pub steps : ℕ
+  pub touched : Cell
   pub state : List ℕ
   pub memory : List ℕ
 
-abbrev pub runAnswer : ℕ → ℕ → List ℕ → List ℕ → RunAnswer
-runAnswer k n b m = record { number = k; steps = n; state = b; memory = m }
+abbrev pub runAnswer : ℕ → ℕ → Cell → List ℕ → List ℕ → RunAnswer
+runAnswer k n t b m = record { number = k; steps = n; touched = t; state = b; memory = m }
 
 abbrev pub runAnswered : Course → RunAnswer
-runAnswered r = runAnswer (r .number) (r .steps) (bytesOf (r .machine .state)) (r .machine .memory)
+runAnswered r =
+    runAnswer (r .number) (r .steps) (cellOf (r .touched)) (bytesOf (r .machine .state)) (r .machine .memory)
 
 -- no step is completed where the call is refused
 unfoldable pub runCall : List ℕ → List ℕ → ℕ → RunAnswer
 runCall b m budget =
     cond (eqb (callRefusal b (length m)) 0)
     (runAnswered (runOf (stateOf b) m budget))
-    (runAnswer (callRefusal b (length m)) 0 b m)
+    (runAnswer (callRefusal b (length m)) 0 (cellOf Nothing) b m)

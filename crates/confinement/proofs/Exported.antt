@@ -130,8 +130,8 @@ module _ (l : Layout) where
     event-bytes (Run n) =
         ap ranBytes (run-call (bytesOf s) m (bytes-bytes s) whole n) ∙ ap (λ x. toBytes (ranTo (runOf x m n))) same
     event-bytes Resume =
-        ap (answered Resumed) (resume-call (bytesOf s) m (bytes-bytes s) whole)
-        ∙ ap (λ x. toBytes (replied Resumed (resumeOf x m))) same
+        ap (answered (λ k _. Resumed k)) (resume-call (bytesOf s) m (bytes-bytes s) whole)
+        ∙ ap (λ x. toBytes (replied (λ k _. Resumed k) (resumeOf x m))) same
     event-bytes (Change xs) = change-bytes xs (stands methods l xs w) refl
 
     event-ranged : (e : Event) → Ranged (eventOf methods l e w .left)
@@ -176,6 +176,7 @@ module _ (l : Layout) (es : List Event) (w : Lent State) (g : Ranged w) where
         steps = rw (list-tries l es w g) (c .steps);
         memories = rw (list-bytes l es w g) (all-map _ toBytes (listOf methods l es w) (c .memories));
         answers = rw (list-bytes l es w g) (all-map _ toBytes (listOf methods l es w) (c .answers));
+        touched = rw (list-bytes l es w g) (all-map _ toBytes (listOf methods l es w) (c .touched));
       }
 
   seen-bytes : map (seen l) (listOf exported l es (inBytes w)) ≡ map seenBytes (map (seen l) (listOf methods l es w))

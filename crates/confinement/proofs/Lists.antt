@@ -11,9 +11,14 @@ use Rattle.layout.specs.declared.Layout.{Layout}
 use Rattle.system.specs.System.{isUser}
 use Rattle.machine.specs.declared.state.State.{State}
 use Rattle.machine.specs.State.{refusalOf}
-use Rattle.machine.specs.Step.{Outcome, stepOf}
+use Rattle.effect.specs.declared.effect.Touched.{Touched}
+use Rattle.effect.specs.declared.effect.Touched.the-variants.{Nothing, Load, Store}
+use Rattle.effect.specs.Touched.{lastOf, cellOf}
+use Rattle.machine.specs.Apply.{Span, spanOf}
+use Rattle.machine.specs.Step.{accessAt, Outcome, stepOf}
 use Rattle.machine.specs.Run.{Course, repeatOf, runOf}
 use Rattle.machine.specs.Resume.{isServed, resumeOf}
+use Rattle.machine.proofs.Steps.{step-touches}
 use Rattle.machine.proofs.Runs.{run-repeats}
 use Rattle.checker.specs.Lawful.{Stands, Lawful}
 use Rattle.checker.specs.Refusal.{All}
@@ -21,7 +26,7 @@ use Rattle.checker.proofs.Whole.{join}
 use Rattle.confinement.specs.Events.{Write, Event, Step, Run, Resume, Change, isOther, mayWrite}
 use Rattle.confinement.specs.Calls.{Lent, lent, Reply, putState, methods}
 use Rattle.confinement.specs.Lists.{isExit, mayAll, putByte, putAll, stands, eventOf, listOf, runTries, tries, listTries}
-use Rattle.confinement.specs.Demand.{Allowed, Confined, Untouched, Expected}
+use Rattle.confinement.specs.Demand.{InData, Allowed, Confined, Untouched, Expected, CellInData, TouchedInData}
 use Rattle.confinement.proofs.Definitions.{stands-exit, stands-may}
 use Rattle.confinement.proofs.ByKind.{Idle}
 use Rattle.confinement.proofs.Invariant.{Inside, idle-ready}
@@ -51,29 +56,49 @@ module _ (l : Layout) (len : ℕ) (img : List ℕ) (ok : Lawful l len img) where
   abbrev Ended : ℕ → Type 0
   Ended k = (k ≡ 0) ⊎ Allowed k
 
-  abbrev Reached : List ℕ → Course → Type 0
-  Reached m r = Left m (r .machine .state) (r .machine .memory) (Ended (r .number))
+  abbrev Told : ℕ → Touched → Type 0
+  Told k t = Ended k × CellInData l (cellOf t)
 
-  step-left : (s : State) (m : List ℕ) → Inside l len img s m → Left m (stepOf s m .machine .state) (stepOf s m .machine .memory) (Ended (stepOf s m .number))
+  abbrev Reached : List ℕ → Course → Type 0
+  Reached m r = Left m (r .machine .state) (r .machine .memory) (Told (r .number) (r .touched))
+
+  -- of accesses inside the data area, the last is inside it
+  span-inside : (t : Touched) (x : Span) → InData l x → (t ≡ Nothing) ⊎ (spanOf t ≡ x) → CellInData l (cellOf t)
+  span-inside Nothing x h e = inl refl
+  span-inside (Load a w) x h (inl e) = inl (ap (λ t. spanOf t .width) e)
+  span-inside (Load a w) x h (inr e) = subst (InData l) (sym e) h
+  span-inside (Store a w) x h (inl e) = inl (ap (λ t. spanOf t .width) e)
+  span-inside (Store a w) x h (inr e) = subst (InData l) (sym e) h
+
+  last-inside : (t u : Touched) → CellInData l (cellOf t) → CellInData l (cellOf u) → CellInData l (cellOf (lastOf t u))
+  last-inside t Nothing h k = h
+  last-inside t (Load a w) h k = k
+  last-inside t (Store a w) h k = k
+
+  step-left : (s : State) (m : List ℕ) → Inside l len img s m → Left m (stepOf s m .machine .state) (stepOf s m .machine .memory) (Told (stepOf s m .number) (stepOf s m .touched))
   step-left s m v =
       record {
         inside = step-inside l len img ok s m v;
         untouched = step-untouched l len img ok s m v;
-        answered = ⊎-elim inl (λ p. inr (p .0)) (exit-is l len img ok s m v);
+        answered = (
+          ⊎-elim inl (λ p. inr (p .0)) (exit-is l len img ok s m v),
+          span-inside (stepOf s m .touched) (accessAt s m) (confined l len img ok s m v .access) (step-touches s m (v .valid) (v .bytes)),
+        );
       }
 
   repeat-left : (n : ℕ) (s : State) (m : List ℕ) → Inside l len img s m → Reached m (repeatOf n s m)
   unfolding repeatOf
-  repeat-left zero s m v = record { inside = v; untouched = untouched-same l m; answered = inl refl }
+  repeat-left zero s m v = record { inside = v; untouched = untouched-same l m; answered = (inl refl, inl refl) }
   repeat-left (suc n) s m v =
       let t = step-left s m v in
-      let r = repeat-left n (stepOf s m .machine .state) (stepOf s m .machine .memory) (t .inside) in
+      let u = stepOf s m .machine in
+      let r = repeat-left n (u .state) (u .memory) (t .inside) in
       by-zero (Reached m) (stepOf s m .number)
-      (λ _. record { inside = r .inside; untouched = untouched-then l m _ _ (t .untouched) (r .untouched); answered = r .answered })
-      (λ _. t)
+      (λ _. record { inside = r .inside; untouched = untouched-then l m _ _ (t .untouched) (r .untouched); answered = (r .answered .0, last-inside (stepOf s m .touched) (repeatOf n (u .state) (u .memory) .touched) (t .answered .1) (r .answered .1)) })
+      (λ _. record { inside = t .inside; untouched = t .untouched; answered = (t .answered .0, inl refl) })
 
   -- it changes only data, and ends still running or by an allowed exit
-  pub run-inside : (n : ℕ) (s : State) (m : List ℕ) → Inside l len img s m → Left m (runOf s m n .machine .state) (runOf s m n .machine .memory) (Ended (runOf s m n .number))
+  pub run-inside : (n : ℕ) (s : State) (m : List ℕ) → Inside l len img s m → Left m (runOf s m n .machine .state) (runOf s m n .machine .memory) (Told (runOf s m n .number) (runOf s m n .touched))
   run-inside n s m v =
       subst (Reached m) (run-repeats s m n (unrefused l len img ok s m v)) (repeat-left n s m v)
 
@@ -123,21 +148,21 @@ module _ (l : Layout) (len : ℕ) (img : List ℕ) (ok : Lawful l len img) where
           word-is = r .word-is;
         }
 
-    put-left : (ys : List Write) (w : Lent State) → mayAll l ys ≡ true → Resting w → Left (w .memory) (putAll methods l ys w .state) (putAll methods l ys w .memory) (Unit {0})
-    put-left [] w e r = record { inside = r .inside; untouched = untouched-same l (w .memory); answered = tt }
+    put-left : (ys : List Write) (w : Lent State) → mayAll l ys ≡ true → Resting w → Left (w .memory) (putAll methods l ys w .state) (putAll methods l ys w .memory) (Unit {0} × Unit {0})
+    put-left [] w e r = record { inside = r .inside; untouched = untouched-same l (w .memory); answered = (tt, tt) }
     put-left (y ∷ ys) w e r =
         let (p, q) = both (mayWrite l y) (mayAll l ys) e in
         let z = put-left ys (lent (putState y (w .state)) (putByte y (w .memory))) q (put-resting y w p r) in
         record {
           inside = z .inside;
           untouched = untouched-then l (w .memory) _ _ (put-untouched l y (w .memory) p) (z .untouched);
-          answered = tt;
+          answered = (tt, tt);
         }
 
   -- ---- an event
 
   abbrev Replied : Lent State → Reply State → Type 0
-  Replied w r = Left (w .memory) (r .left .state) (r .left .memory) (Expected (r .answer))
+  Replied w r = Left (w .memory) (r .left .state) (r .left .memory) (Expected (r .answer) × TouchedInData l (r .answer))
 
   module _ (w : Lent State) (v : Inside l len img (w .state) (w .memory)) where
     abbrev s : State
@@ -155,11 +180,11 @@ module _ (l : Layout) (len : ℕ) (img : List ℕ) (ok : Lawful l len img) where
     unfolding resumeOf isServed
     resume-left =
         rw (unrefused l len img ok s m v)
-        (by-test (λ (o : Outcome). Left m (o .machine .state) (o .machine .memory) ((o .number ≡ 0) ⊎ (o .number ≡ 19))) (isServed (stepOf s m .number))
-        (λ e. record { inside = resumed-inside l len img ok s m v (exiting isServed refl e); untouched = untouched-same l m; answered = inl refl })
-        (λ _. record { inside = v; untouched = untouched-same l m; answered = inr refl }))
+        (by-test (λ (o : Outcome). Left m (o .machine .state) (o .machine .memory) (((o .number ≡ 0) ⊎ (o .number ≡ 19)) × Unit {0})) (isServed (stepOf s m .number))
+        (λ e. record { inside = resumed-inside l len img ok s m v (exiting isServed refl e); untouched = untouched-same l m; answered = (inl refl, tt) })
+        (λ _. record { inside = v; untouched = untouched-same l m; answered = (inr refl, tt) }))
 
-    kept-standing : (xs : List Write) → stands methods l xs w ≡ true → Left m (putAll methods l xs w .state) (putAll methods l xs w .memory) (Unit {0})
+    kept-standing : (xs : List Write) → stands methods l xs w ≡ true → Left m (putAll methods l xs w .state) (putAll methods l xs w .memory) (Unit {0} × Unit {0})
     unfolding isExit
     kept-standing xs e =
         let idle = exiting isExit refl (stands-exit methods l xs w e) in
@@ -169,7 +194,7 @@ module _ (l : Layout) (len : ℕ) (img : List ℕ) (ok : Lawful l len img) where
     change-left : (xs : List Write) → Replied w (eventOf methods l (Change xs) w)
     change-left xs =
         by-test (Replied w) (stands methods l xs w) (kept-standing xs)
-        (λ _. record { inside = v; untouched = untouched-same l m; answered = tt })
+        (λ _. record { inside = v; untouched = untouched-same l m; answered = (tt, tt) })
 
     pub event-left : (e : Event) → Replied w (eventOf methods l e w)
     event-left Step = step-left s m v
@@ -198,7 +223,12 @@ module _ (l : Layout) (len : ℕ) (img : List ℕ) (ok : Lawful l len img) where
   pub list-expected : (es : List Event) (w : Lent State) → Inside l len img (w .state) (w .memory) → All (λ r. Expected (r .answer)) (listOf methods l es w)
   list-expected [] w v = tt
   list-expected (e ∷ es) w v =
-      let r = event-left w v e in (r .answered, list-expected es (eventOf methods l e w .left) (r .inside))
+      let r = event-left w v e in (r .answered .0, list-expected es (eventOf methods l e w .left) (r .inside))
+
+  pub list-touched : (es : List Event) (w : Lent State) → Inside l len img (w .state) (w .memory) → All (λ r. TouchedInData l (r .answer)) (listOf methods l es w)
+  list-touched [] w v = tt
+  list-touched (e ∷ es) w v =
+      let r = event-left w v e in (r .answered .1, list-touched es (eventOf methods l e w .left) (r .inside))
 
   pub list-confined : (es : List Event) (w : Lent State) → Inside l len img (w .state) (w .memory) → All (Confined l) (listTries methods l es w)
   list-confined [] w v = tt

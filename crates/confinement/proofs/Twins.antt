@@ -24,6 +24,7 @@ use Rattle.machine.specs.Resume.{isServed, resumeOf}
 use Rattle.machine.proofs.Steps.{effect-sound}
 use Rattle.checker.specs.Lawful.{Lawful}
 use Rattle.confinement.specs.Events as E
+use Rattle.effect.specs.Touched.{lastOf, cellOf}
 use Rattle.confinement.specs.Calls.{lent, Stepped, Ran, Resumed, Reply, putState, methods}
 use Rattle.confinement.specs.Lists.{isExit, mayAll, putByte, putAll, stands, eventOf, listOf, at}
 use Rattle.confinement.specs.Demand.{Within, Confined, dataOf, Seen, seen}
@@ -146,6 +147,7 @@ module _ (l : Layout) (len : ℕ) (img : List ℕ) (ok : Lawful l len img) where
   -- the same answer and state, and memories alike
   pub record Agree (o p : Outcome) : Type 0 where
     pub numbers : o .number ≡ p .number
+    pub touches : o .touched ≡ p .touched
     pub states : o .machine .state ≡ p .machine .state
     pub twins : Twin l (o .machine .memory) (p .machine .memory)
 
@@ -169,6 +171,7 @@ module _ (l : Layout) (len : ℕ) (img : List ℕ) (ok : Lawful l len img) where
         rw same-effect
         (record {
           numbers = refl;
+          touches = refl;
           states = applied-state l s m n t (there .access) (effectAt s n) (effect-sound s n (v .valid) (v .bytes));
           twins = applied-twin l s m n t (effectAt s n);
         })
@@ -180,42 +183,43 @@ module _ (l : Layout) (len : ℕ) (img : List ℕ) (ok : Lawful l len img) where
     unfolding stepOf
     step-agrees =
         both-ways Agree _ _ (ap (λ k. eqb k 0) same-refusal) try-agrees
-        (record { numbers = same-refusal; states = refl; twins = t })
+        (record { numbers = same-refusal; touches = refl; states = refl; twins = t })
 
     resume-agrees : Agree (resumeOf s m) (resumeOf s n)
     unfolding resumeOf
     resume-agrees =
         both-ways Agree _ _ (ap (λ k. eqb k 0) same-refusal)
         (both-ways Agree _ _ (ap isServed (step-agrees .numbers))
-        (record { numbers = refl; states = refl; twins = t })
-        (record { numbers = refl; states = refl; twins = t }))
-        (record { numbers = same-refusal; states = refl; twins = t })
+        (record { numbers = refl; touches = refl; states = refl; twins = t })
+        (record { numbers = refl; touches = refl; states = refl; twins = t }))
+        (record { numbers = same-refusal; touches = refl; states = refl; twins = t })
 
   -- ---- a run, from any state that the invariant allows
 
   pub record Alongside (r q : Course) : Type 0 where
     pub numbers : r .number ≡ q .number
     pub totals : r .steps ≡ q .steps
+    pub touches : r .touched ≡ q .touched
     pub states : r .machine .state ≡ q .machine .state
     pub twins : Twin l (r .machine .memory) (q .machine .memory)
 
   repeat-agrees : (k : ℕ) (s u : State) (m n : List ℕ) → s ≡ u → Inside l len img u n → Twin l m n → Alongside (repeatOf k s m) (repeatOf k u n)
   unfolding repeatOf
-  repeat-agrees zero s u m n e v t = record { numbers = refl; totals = refl; states = e; twins = t }
+  repeat-agrees zero s u m n e v t = record { numbers = refl; totals = refl; touches = refl; states = e; twins = t }
   repeat-agrees (suc k) s u m n e v t =
       let a = step-agrees u m n v t in
       let r = repeat-agrees k _ _ _ _ (a .states) (step-inside l len img ok u n v) (a .twins) in
       subst (λ (x : State). Alongside (repeatOf (suc k) x m) (repeatOf (suc k) u n)) (sym e)
       (both-ways Alongside _ _ (ap (λ x. eqb x 0) (a .numbers))
-      (record { numbers = r .numbers; totals = ap (λ x. 1 + x) (r .totals); states = r .states; twins = r .twins })
-      (record { numbers = a .numbers; totals = refl; states = a .states; twins = a .twins }))
+      (record { numbers = r .numbers; totals = ap (λ x. 1 + x) (r .totals); touches = ap₂ lastOf (a .touches) (r .touches); states = r .states; twins = r .twins })
+      (record { numbers = a .numbers; totals = refl; touches = refl; states = a .states; twins = a .twins }))
 
   pub run-agrees : (k : ℕ) (s : State) (m n : List ℕ) → Inside l len img s n → Twin l m n → Alongside (runOf s m k) (runOf s n k)
   unfolding runOf
   run-agrees k s m n v t =
       both-ways Alongside _ _ (ap (λ x. eqb x 0) (same-refusal s m n v t))
       (repeat-agrees k s s m n refl v t)
-      (record { numbers = same-refusal s m n v t; totals = refl; states = refl; twins = t })
+      (record { numbers = same-refusal s m n v t; totals = refl; touches = refl; states = refl; twins = t })
 
   -- ---- an event
 
@@ -242,10 +246,10 @@ module _ (l : Layout) (len : ℕ) (img : List ℕ) (ok : Lawful l len img) where
 
     event-agrees : (e : E.Event) → Replies (eventOf methods l e (lent s m)) (eventOf methods l e (lent s n))
     event-agrees E.Step =
-        let a = step-agrees s m n v t in record { answers = ap Stepped (a .numbers); states = a .states; twins = a .twins }
+        let a = step-agrees s m n v t in record { answers = ap₂ (λ k x. Stepped k (cellOf x)) (a .numbers) (a .touches); states = a .states; twins = a .twins }
     event-agrees (E.Run k) =
         let a = run-agrees k s m n v t in
-        record { answers = ap₂ Ran (a .numbers) (a .totals); states = a .states; twins = a .twins }
+        record { answers = (λ i. Ran (a .numbers i) (a .totals i) (cellOf (a .touches i))); states = a .states; twins = a .twins }
     event-agrees E.Resume =
         let a = resume-agrees s m n v t in
         record { answers = ap Resumed (a .numbers); states = a .states; twins = a .twins }

@@ -19,7 +19,7 @@ use Rattle.confinement.specs.Demand.{Start, Alike, Demand3}
 use Rattle.confinement.proofs.Parts.{part-bytes}
 use Rattle.confinement.proofs.Areas.{code-bundles}
 use Rattle.confinement.proofs.Invariant.{onward, Inside, entry-ready, bundle-entry}
-use Rattle.confinement.proofs.Lists.{untouched-same, list-untouched, list-expected, list-confined}
+use Rattle.confinement.proofs.Lists.{untouched-same, list-untouched, list-expected, list-touched, list-confined}
 use Rattle.confinement.proofs.Twins.{Twin, list-agrees}
 use Rattle.confinement.proofs.Exported.{exported-from}
 
@@ -74,6 +74,7 @@ demand-3-methods l len img e w s es =
         steps = list-confined l len img ok es w v;
         memories = list-untouched l len img ok (w .memory) es w v (untouched-same l (w .memory));
         answers = list-expected l len img ok es w v;
+        touched = list-touched l len img ok es w v;
       },
       λ u p a. list-agrees l len img ok es (u .state) (w .state) (u .memory) (w .memory) (a .same-state) v (start-twin l len img ok u w p s a),
     )

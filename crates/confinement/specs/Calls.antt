@@ -4,6 +4,8 @@ use mathlib.Core.Bool.{Bool}
 use mathlib.Core.List.{List}
 use lib.ListN.{set}
 use Rattle.word.specs.Bytes.{storeOf}
+use Rattle.effect.specs.declared.effect.Cell.{Cell}
+use Rattle.effect.specs.Touched.{cellOf}
 use Rattle.machine.specs.declared.state.State.{State}
 use Rattle.machine.specs.State.{specialOf, joinOf, refusalOf, Typed, Bytes}
 use Rattle.apply.specs.Apply.{pairOf}
@@ -22,10 +24,11 @@ pub record Lent (S : Type 0) : Type 0 where
 abbrev pub lent : {S : Type 0} → S → List ℕ → Lent S
 lent s m = record { state = s; memory = m }
 
--- what an event hands back beside the state: a call its number, a run its step total too, a change whether it stands
+-- what an event hands back beside the state: a call its number, a step and a run what they touched (document 02, Ticket 1), a run its step total too,
+-- and a change whether it stands
 pub data Answer : Type 0 where
-  Stepped : ℕ → Answer
-  Ran : ℕ → ℕ → Answer
+  Stepped : ℕ → Cell → Answer
+  Ran : ℕ → ℕ → Cell → Answer
   Resumed : ℕ → Answer
   Changed : Bool → Answer
 
@@ -52,11 +55,11 @@ pub record Calls (S : Type 0) : Type 1 where
 
 -- ---- the methods of State
 
-abbrev pub replied : (ℕ → Answer) → Outcome → Reply State
-replied f o = reply (f (o .number)) (o .machine .state) (o .machine .memory)
+abbrev pub replied : (ℕ → Cell → Answer) → Outcome → Reply State
+replied f o = reply (f (o .number) (cellOf (o .touched))) (o .machine .state) (o .machine .memory)
 
 abbrev pub ranTo : Course → Reply State
-ranTo r = reply (Ran (r .number) (r .steps)) (r .machine .state) (r .machine .memory)
+ranTo r = reply (Ran (r .number) (r .steps) (cellOf (r .touched))) (r .machine .state) (r .machine .memory)
 
 abbrev pub putState : Write → State → State
 putState (Register r v) s = joinOf (set (s .registers) r v) (specialOf s)
@@ -72,17 +75,17 @@ methods =
       refusal = refusalOf;
       step = λ s m. replied Stepped (stepOf s m);
       run = λ n s m. ranTo (runOf s m n);
-      resume = λ s m. replied Resumed (resumeOf s m);
+      resume = λ s m. replied (λ k _. Resumed k) (resumeOf s m);
       put = putState;
     }
 
 -- ---- the exported calls: cc100_step, cc100_run, cc100_resume
 
-abbrev pub answered : (ℕ → Answer) → C.Answer → Reply (List ℕ)
-answered f r = reply (f (r .number)) (r .state) (r .memory)
+abbrev pub answered : (ℕ → Cell → Answer) → C.Answer → Reply (List ℕ)
+answered f r = reply (f (r .number) (r .touched)) (r .state) (r .memory)
 
 abbrev pub ranBytes : C.RunAnswer → Reply (List ℕ)
-ranBytes r = reply (Ran (r .number) (r .steps)) (r .state) (r .memory)
+ranBytes r = reply (Ran (r .number) (r .steps) (r .touched)) (r .state) (r .memory)
 
 -- of the 41 words, registers 0 to 31 come first, then HI and LO
 abbrev pub putBytes : Write → List ℕ → List ℕ
@@ -99,6 +102,6 @@ exported =
       refusal = C.callRefusal;
       step = λ b m. answered Stepped (C.stepCall b m);
       run = λ n b m. ranBytes (C.runCall b m n);
-      resume = λ b m. answered Resumed (C.resumeCall b m);
+      resume = λ b m. answered (λ k _. Resumed k) (C.resumeCall b m);
       put = putBytes;
     }

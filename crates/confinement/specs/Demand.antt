@@ -11,6 +11,7 @@ use Rattle.rules.specs.Not.{Not}
 use Rattle.checker.specs.Refusal.{All}
 use Rattle.effect.specs.Exit.{integerOverflow, systemCall, breakpoint, trap}
 use Rattle.system.specs.System.{isUser}
+use Rattle.effect.specs.declared.effect.Cell.{Cell}
 use Rattle.machine.specs.State.{registerOf, Bytes}
 use Rattle.machine.specs.Apply.{Machine, Span, span}
 use Rattle.machine.specs.Step.{accessAt, stepOf}
@@ -21,6 +22,10 @@ use Rattle.confinement.specs.Lists.{listOf, listTries}
 -- the bytes x lie in the area of `size` bytes at `base`
 abbrev pub Within : ℕ → ℕ → Span → Type 0
 Within base size x = (base ≤ x .at) × (x .at + x .width ≤ base + size)
+
+-- an access is none, or lies in the data area, its whole width
+abbrev pub InData : Layout → Span → Type 0
+InData l x = (x .width ≡ 0) ⊎ Within (l .«data_base») (l .«data_size») x
 
 -- the exits that demand 3 allows: 40, 46, 47 and 48
 abbrev pub Allowed : ℕ → Type 0
@@ -46,7 +51,7 @@ pub record Start {S : Type 0} (c : Calls S) (l : Layout) (len : ℕ) (img : List
 -- a step tried fetches from the code, accesses the data area alone (an SC counts also where it does not store), and exits, if it does, as allowed
 pub record Confined (l : Layout) (t : Machine) : Type 0 where
   pub fetch : Within (l .«code_base») (l .«code_size») (span (t .state .pc) 4)
-  pub access : (accessAt (t .state) (t .memory) .width ≡ 0) ⊎ Within (l .«data_base») (l .«data_size») (accessAt (t .state) (t .memory))
+  pub access : InData l (accessAt (t .state) (t .memory))
   pub exit : (stepOf (t .state) (t .memory) .number ≡ 0) ⊎ Allowed (stepOf (t .state) (t .memory) .number)
 
 -- memory m, which was m₀ at the start
@@ -56,15 +61,26 @@ pub record Untouched (l : Layout) (m₀ m : List ℕ) : Type 0 where
 
 -- a call is done, ends in an allowed exit, or is a resume that 19 refuses; no other refusal is met
 abbrev pub Expected : Answer → Type 0
-Expected (Stepped k) = (k ≡ 0) ⊎ Allowed k
-Expected (Ran k n) = (k ≡ 0) ⊎ Allowed k
+Expected (Stepped k t) = (k ≡ 0) ⊎ Allowed k
+Expected (Ran k n t) = (k ≡ 0) ⊎ Allowed k
 Expected (Resumed k) = (k ≡ 0) ⊎ (k ≡ 19)
 Expected (Changed t) = Unit {0}
+
+-- the access that an answer carries (document 02, Ticket 1)
+abbrev pub CellInData : Layout → Cell → Type 0
+CellInData l t = InData l (span (t .address) (t .width))
+
+abbrev pub TouchedInData : Layout → Answer → Type 0
+TouchedInData l (Stepped k t) = CellInData l t
+TouchedInData l (Ran k n t) = CellInData l t
+TouchedInData l (Resumed k) = Unit {0}
+TouchedInData l (Changed t) = Unit {0}
 
 pub record Confinement {S : Type 0} (c : Calls S) (l : Layout) (es : List Event) (w : Lent S) : Type 0 where
   pub steps : All (Confined l) (listTries c l es w)
   pub memories : All (λ r. Untouched l (w .memory) (r .left .memory)) (listOf c l es w)
   pub answers : All (λ r. Expected (r .answer)) (listOf c l es w)
+  pub touched : All (λ r. TouchedInData l (r .answer)) (listOf c l es w)
 
 -- ---- non-interference
 

@@ -1,2 +1,3 @@
 pub mod Exit
 pub mod Sound
+pub mod Touched

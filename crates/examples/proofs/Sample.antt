@@ -14,6 +14,9 @@ use Rattle.class.specs.Class.{registerWritten}
 use Rattle.isa.specs.Reading.{fits, decodeOf, readFields, readOf}
 use Rattle.effect.specs.declared.effect.Effect.{Effect}
 use Rattle.effect.specs.declared.effect.Effect.the-variants.{Exit}
+use Rattle.effect.specs.declared.effect.Touched.{Touched}
+use Rattle.effect.specs.declared.effect.Touched.the-variants.{Nothing, Store}
+use Rattle.effect.specs.Touched.{touchedOf, cell, cellOf}
 use Rattle.effect.specs.Exit.{fetchOutside}
 use Rattle.access.specs.Access.{addressOf, reaches, storeIf}
 use Rattle.arithmetic.specs.Arithmetic.{checked}
@@ -24,7 +27,7 @@ use Rattle.machine.specs.declared.state.State.{State}
 use Rattle.machine.specs.State.{isLawful, refusalOf}
 use Rattle.apply.specs.Apply.{putOf}
 use Rattle.machine.specs.Apply.{Machine, applyOf}
-use Rattle.machine.specs.Step.{effectOf, effectAt, readEffect, exitOf, Outcome, outcome, tryOf, stepOf}
+use Rattle.machine.specs.Step.{effectOf, effectAt, readEffect, exitOf, Outcome, stepped, outcome, tryOf, stepOf}
 use Rattle.machine.specs.Run.{Course, course, later, repeatOf, runOf}
 use Rattle.machine.specs.Resume.{isServed, resumedOf, resumeOf}
 use Rattle.layout.specs.Layout.{isCodeSize, isDataSize, isPlaced, isApart}
@@ -84,7 +87,7 @@ effectFor s n w = cond (leb (s .pc + 4) n) (readEffect (readOf w) s n) (Exit fet
 abbrev stepFor : State → List ℕ → ℕ → ℕ → Outcome
 stepFor s m n w =
     cond (eqb (refusalOf s n) 0)
-    (record { number = exitOf (effectFor s n w); machine = applyOf (effectFor s n w) s m })
+    (record { number = exitOf (effectFor s n w); touched = touchedOf (effectFor s n w); machine = applyOf (effectFor s n w) s m })
     (outcome (refusalOf s n) s m)
 
 step-for : (s : State) (m : List ℕ) (n w : ℕ) → length m ≡ n → loadOf 4 m (s .pc) ≡ w → stepOf s m ≡ stepFor s m n w
@@ -99,7 +102,7 @@ storing m v = storeOf 4 m 0x20000 v
 record Steps (m : List ℕ) : Type 0 where
   andi : stepOf (sampleAt 0x10000 0x10004 0xFFFFFFC0) m ≡ outcome 0 (sampleAt 0x10004 0x10008 0) m
   or : stepOf (sampleAt 0x10004 0x10008 0) m ≡ outcome 0 (sampleAt 0x10008 0x1000C 0x20000) m
-  sw : stepOf (sampleAt 0x10008 0x1000C 0x20000) m ≡ outcome 0 (sampleAt 0x1000C 0x10010 0x20000) (storing m 0x04030201)
+  sw : stepOf (sampleAt 0x10008 0x1000C 0x20000) m ≡ stepped 0 (Store 0x20000 4) (sampleAt 0x1000C 0x10010 0x20000) (storing m 0x04030201)
   syscall : (x : ℕ) → stepOf (sampleAt 0x1000C 0x10010 x) m ≡ outcome 46 (sampleAt 0x1000C 0x10010 x) m
   nop-4 : stepOf (sampleAt 0x10010 0x10014 5) m ≡ outcome 0 (sampleAt 0x10014 0x10018 5) m
   nop-5 : stepOf (sampleAt 0x10014 0x10018 5) m ≡ outcome 0 (sampleAt 0x10018 0x1001C 5) m
@@ -122,17 +125,17 @@ steps m c =
 
 -- a run of n steps at most leads to a course and tries steps
 data Trace : ℕ → State → List ℕ → Course → List Machine → Type 0 where
-  spent : {s : State} {m : List ℕ} → Trace 0 s m (course 0 0 s m) []
+  spent : {s : State} {m : List ℕ} → Trace 0 s m (course 0 0 Nothing s m) []
   exits : {n k : ℕ} {s : State} {m : List ℕ} → stepOf s m ≡ outcome k s m → eqb k 0 ≡ false
-      → Trace (suc n) s m (course k 0 s m) (at s m ∷ [])
-  goes : {n : ℕ} {s t : State} {m x : List ℕ} {c : Course} {ts : List Machine} → stepOf s m ≡ outcome 0 t x → Trace n t x c ts
-      → Trace (suc n) s m (later 1 c) (at s m ∷ ts)
+      → Trace (suc n) s m (course k 0 Nothing s m) (at s m ∷ [])
+  goes : {n : ℕ} {y : Touched} {s t : State} {m x : List ℕ} {c : Course} {ts : List Machine} → stepOf s m ≡ stepped 0 y t x → Trace n t x c ts
+      → Trace (suc n) s m (later 1 y c) (at s m ∷ ts)
 
 trace-repeat : {n : ℕ} {s : State} {m : List ℕ} {c : Course} {ts : List Machine} → Trace n s m c ts → repeatOf n s m ≡ c
 unfolding repeatOf
 trace-repeat spent = refl
 trace-repeat (exits e z) = rw (e, z)
-trace-repeat (goes e r) = rw e (ap (later 1) (trace-repeat r))
+trace-repeat (goes {y} e r) = rw e (ap (later 1 y) (trace-repeat r))
 
 trace-tries : {n : ℕ} {s : State} {m : List ℕ} {c : Course} {ts : List Machine} → Trace n s m c ts → runTries n s m ≡ ts
 trace-tries spent = refl
@@ -167,7 +170,7 @@ module _ (s : State) (m : List ℕ) (z : refusalOf s (length m) ≡ 0) where
   does-run t = record { replies = rw z (ap ranTo (trace-repeat t)); trying = rw z (trace-tries t) }
 
   module _ {k : ℕ} (e : stepOf s m ≡ outcome k s m) where
-    does-step : Does Step (lent s m) (reply (Stepped k) s m) (at s m ∷ [])
+    does-step : Does Step (lent s m) (reply (Stepped k (cellOf Nothing)) s m) (at s m ∷ [])
     does-step = record { replies = rw e; trying = rw z }
 
     resumes : isServed k ≡ true → Does Resume (lent s m) (reply (Resumed 0) (resumedOf s) m) (at s m ∷ [])
@@ -190,12 +193,12 @@ module _ (m : List ℕ) where
 
   abbrev repliesOf : List (Reply State)
   repliesOf =
-      reply (Ran 46 3) (sampleAt 0x1000C 0x10010 0x20000) stored
+      reply (Ran 46 3 (cell 0x20000 4 1)) (sampleAt 0x1000C 0x10010 0x20000) stored
       ∷ reply (Changed true) (sampleAt 0x1000C 0x10010 5) changed
-      ∷ reply (Stepped 46) (sampleAt 0x1000C 0x10010 5) changed
+      ∷ reply (Stepped 46 (cell 0 0 0)) (sampleAt 0x1000C 0x10010 5) changed
       ∷ reply (Resumed 0) (sampleAt 0x10010 0x10014 5) changed
       ∷ reply (Resumed 19) (sampleAt 0x10010 0x10014 5) changed
-      ∷ reply (Ran 0 3) (sampleAt 0x1001C 0x10000 5) changed
+      ∷ reply (Ran 0 3 (cell 0 0 0)) (sampleAt 0x1001C 0x10000 5) changed
       ∷ []
 
   abbrev triedOf : List Machine

@@ -7,6 +7,7 @@ use lib.ListN.{replicate, set}
 use Rattle.word.specs.Bytes.{loadOf}
 use Rattle.layout.specs.declared.Layout.{Layout}
 use Rattle.checker.specs.Examples.{lengthM, moduleM}
+use Rattle.effect.specs.Touched.{cell}
 use Rattle.machine.specs.declared.state.State.{State}
 use Rattle.machine.specs.State.{joinOf}
 use Rattle.apply.specs.Apply.{special}
@@ -55,16 +56,16 @@ sampleEvents = Run 10 ∷ Change (Register 8 5 ∷ Byte 0x20003 9 ∷ []) ∷ St
 
 abbrev pub sampleReplies : List Shown
 sampleReplies =
-    -- three steps, then SYSCALL
-    shown (Ran 46 3) 0x1000C 0x04030201
+    -- three steps, the last of them the store, then SYSCALL
+    shown (Ran 46 3 (cell 0x20000 4 1)) 0x1000C 0x04030201
     ∷ shown (Changed true) 0x1000C 0x09030201
-    -- the same exit
-    ∷ shown (Stepped 46) 0x1000C 0x09030201
+    -- the same exit, which touches nothing
+    ∷ shown (Stepped 46 (cell 0 0 0)) 0x1000C 0x09030201
     ∷ shown (Resumed 0) 0x10010 0x09030201
     -- refused, at a word that ends in no exit
     ∷ shown (Resumed 19) 0x10010 0x09030201
     -- the budget is spent, with the jump's slot next
-    ∷ shown (Ran 0 3) 0x1001C 0x09030201
+    ∷ shown (Ran 0 3 (cell 0 0 0)) 0x1001C 0x09030201
     ∷ []
 
 -- PC of every step tried, a line for each call
@@ -88,13 +89,13 @@ overflowEvents =
 
 abbrev pub overflowReplies : List Shown
 overflowReplies =
-    shown (Ran 40 0) 64 0
+    shown (Ran 40 0 (cell 0 0 0)) 64 0
     -- no host may write register 26, or the byte past the data
     ∷ shown (Changed false) 64 0
     ∷ shown (Changed false) 64 0
     ∷ shown (Resumed 0) 68 0
     -- no exit here
     ∷ shown (Changed false) 68 0
-    -- the guard has made register 8 the data base, and the next ADD gives 32 + 32
-    ∷ shown (Ran 0 12) 84 64
+    -- the guard has made register 8 the data base, and the next ADD gives 32 + 32; the last store is not the last step
+    ∷ shown (Ran 0 12 (cell 32 4 1)) 84 64
     ∷ []

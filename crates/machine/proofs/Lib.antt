@@ -1,4 +1,5 @@
 pub mod Valid
 pub mod Steps
+pub mod Touches
 pub mod Runs
 pub mod Resumes

@@ -1,6 +1,6 @@
 -- The theorems about a run: what its budget, its exit and its total mean, and what it keeps.
 use Prim.Native.Nat.{ℕ, zero, suc, _+_, _-_, _≤_, _<_}
-use mathlib.Core.Path.{_≡_, refl, sym, ap, _∙_}
+use mathlib.Core.Path.{_≡_, refl, sym, ap, subst, _∙_}
 use mathlib.Core.Bool.{Bool, true, false, cond}
 use mathlib.Core.List.{List}
 use mathlib.Core.Logic.{_⊎_, inl, inr}
@@ -11,60 +11,85 @@ use borrow.Author.Tests.{eqb-true, eqb-false, ne-eqb}
 use Rattle.word.proofs.Choice.{by-zero}
 use Rattle.effect.specs.declared.effect.Special.{Special}
 use Rattle.effect.specs.declared.effect.Effect.{Effect}
+use Rattle.effect.specs.declared.effect.Touched.{Touched}
+use Rattle.effect.specs.declared.effect.Touched.the-variants.{Nothing}
+use Rattle.effect.specs.Touched.{touchedOf, lastOf, Held, touchedIn}
+use Rattle.effect.proofs.Touched.{last-first, last-joined, last-some, last-none, Wide, last-wide, held-is}
 use Rattle.machine.specs.declared.state.State.{State}
 use Rattle.machine.specs.State.{registerOf, specialOf, joinOf, isLawful, refusalOf, Typed, Bytes}
 use Rattle.apply.specs.Apply.{parts, appliedOf}
 use Rattle.machine.specs.Apply.{joined, applyOf}
-use Rattle.machine.specs.Step.{effectAt, exitOf, Outcome, outcome, stepOf}
-use Rattle.machine.specs.Run.{Course, course, halted, later, repeatOf, runOf, thenOf, afterOf}
-use Rattle.machine.proofs.Steps.{step-refused, step-done, step-number, step-valid, step-lawful, step-typed, step-bytes, step-length, step-zero, exit-leaves, not-refused, refused-alike, applied-exit}
+use Rattle.machine.specs.Step.{effectAt, exitOf, Outcome, stepped, outcome, stepOf}
+use Rattle.machine.specs.Run.{Course, course, Reaches, halted, later, repeatOf, runOf, thenOf, afterOf}
+use Rattle.machine.proofs.Steps.{step-refused, step-done, step-number, step-valid, step-lawful, step-typed, step-bytes, step-length, step-zero, step-wide, exit-leaves, not-refused, refused-alike, applied-exit, touched-exit}
 use Rattle.machine.proofs.Valid.{Valid, valid, valid-lawful}
 
 -- no step more
-halted-later : (done : ℕ) (o : Outcome) → record { number = o .number; steps = done; machine = o .machine } ≡ later done (halted o)
-halted-later done o = let z : done + 0 ≡ done = omega arith in rw z
+halted-later : (done : ℕ) (t : Touched) (o : Outcome) → record { number = o .number; steps = done; touched = t; machine = o .machine } ≡ later done t (halted o)
+halted-later done t o = let z : done + 0 ≡ done = omega arith in rw z
+
+-- no step before
+later-zero : (r : Course) → later 0 Nothing r ≡ r
+later-zero r = let z : 0 + r .steps ≡ r .steps = omega arith in rw (z, last-first (r .touched))
 
 -- ---- a turn of the loop, by what the code finds
 
 module _ (s : State) (m : List ℕ) (z : refusalOf s (length m) ≡ 0) (e : Effect) (given : e ≡ effectAt s m) where
   step-exits : (exitOf e ≡ 0 → ⊥) → outcome (exitOf e) s m ≡ stepOf s m
-  step-exits n = step-done s m z (specialOf s) refl e given (s .registers) (specialOf s) m (sym (applied-exit e (s .registers) (specialOf s) m n)) (exitOf e) refl s refl
+  step-exits n = step-done s m z (specialOf s) refl e given (s .registers) (specialOf s) m (sym (applied-exit e (s .registers) (specialOf s) m n)) (exitOf e) refl Nothing (sym (touched-exit e n)) s refl
 
-  step-completes : (l : List ℕ) (d : Special) (x : List ℕ) → parts l d x ≡ appliedOf e (s .registers) (specialOf s) m → exitOf e ≡ 0 → outcome 0 (joinOf l d) x ≡ stepOf s m
-  step-completes l d x a n = step-done s m z (specialOf s) refl e given l d x a 0 (sym n) (joinOf l d) refl
+  step-completes : (l : List ℕ) (d : Special) (x : List ℕ) → parts l d x ≡ appliedOf e (s .registers) (specialOf s) m → exitOf e ≡ 0 → stepped 0 (touchedOf e) (joinOf l d) x ≡ stepOf s m
+  step-completes l d x a n = step-done s m z (specialOf s) refl e given l d x a 0 (sym n) (touchedOf e) refl (joinOf l d) refl
 
   -- the next turn is not refused either
   pub turn-lawful : (n : ℕ) (l : List ℕ) (d : Special) (x : List ℕ) → parts l d x ≡ appliedOf e (s .registers) (specialOf s) m → refusalOf s n ≡ 0 → isLawful (applyOf e s m .state) ≡ true → refusalOf (joinOf l d) n ≡ 0
   turn-lawful n l d x a y h = refused-alike s (joinOf l d) n y (ap (λ o. isLawful (joined o .state)) a ∙ h)
 
-  module _ (done b : ℕ) (h : done < b) where
+  module _ (done b : ℕ) (h : done < b) (t : Touched) where
     left : b - done ≡ suc (b - (done + 1))
     left = omega arith
 
-    pub turn-exits : (exitOf e ≡ 0 → ⊥) → course (exitOf e) done s m ≡ later done (repeatOf (b - done) s m)
+    pub turn-exits : (exitOf e ≡ 0 → ⊥) → course (exitOf e) done t s m ≡ later done t (repeatOf (b - done) s m)
     unfolding repeatOf
-    turn-exits n = rw (left, ← step-exits n, ne-eqb _ _ n) (halted-later done (outcome (exitOf e) s m))
+    turn-exits n = rw (left, ← step-exits n, ne-eqb _ _ n) (halted-later done t (outcome (exitOf e) s m))
 
-    pub turn-completes : (l : List ℕ) (d : Special) (x : List ℕ) → parts l d x ≡ appliedOf e (s .registers) (specialOf s) m → exitOf e ≡ 0 → later (done + 1) (repeatOf (b - (done + 1)) (joinOf l d) x) ≡ later done (repeatOf (b - done) s m)
+    pub turn-completes : (l : List ℕ) (d : Special) (x : List ℕ) → parts l d x ≡ appliedOf e (s .registers) (specialOf s) m → exitOf e ≡ 0 → later (done + 1) (lastOf t (touchedOf e)) (repeatOf (b - (done + 1)) (joinOf l d) x) ≡ later done t (repeatOf (b - done) s m)
     unfolding repeatOf
     turn-completes l d x a n =
         let r = repeatOf (b - (done + 1)) (joinOf l d) x in
         let p : done + 1 + r .steps ≡ done + (1 + r .steps) = omega arith in
-        rw (left, ← step-completes l d x a n, p)
+        rw (left, ← step-completes l d x a n, p, last-joined t (touchedOf e) (r .touched))
 
-pub turns-begin : (s : State) (m : List ℕ) (b : ℕ) → later 0 (repeatOf (b - 0) s m) ≡ repeatOf b s m
-turns-begin s m b =
-    let z : b - 0 ≡ b = omega arith in
-    let y : 0 + repeatOf b s m .steps ≡ repeatOf b s m .steps = omega arith in
-    rw (z, y)
+pub turns-begin : (s : State) (m : List ℕ) (b : ℕ) → later 0 Nothing (repeatOf (b - 0) s m) ≡ repeatOf b s m
+turns-begin s m b = let z : b - 0 ≡ b = omega arith in rw z (later-zero (repeatOf b s m))
 
-pub turns-done : (s : State) (m : List ℕ) (done b : ℕ) → b ≤ done → course 0 done s m ≡ later done (repeatOf (b - done) s m)
+pub turns-done : (s : State) (m : List ℕ) (done b : ℕ) (t : Touched) → b ≤ done → course 0 done t s m ≡ later done t (repeatOf (b - done) s m)
 unfolding repeatOf
-turns-done s m done b h = let z : b - done ≡ 0 = omega arith in rw z (halted-later done (outcome 0 s m))
+turns-done s m done b t h = let z : b - done ≡ 0 = omega arith in rw z (halted-later done t (outcome 0 s m))
+
+-- a run that is told with its last access in words
+pub reaches : (k n a c : ℕ) (t : Touched) (s : State) (m : List ℕ) (r : Course) → course k n t s m ≡ r → Held a c t → Reaches k n a c s m r
+reaches k n a c t s m r e h = subst (Reaches k n a c s m) e (refl, h)
+
+-- and from the words again
+pub reached : (k n a c : ℕ) (s : State) (m : List ℕ) (r : Course) → Reaches k n a c s m r → Wide (r .touched) → (t : Touched) → t ≡ touchedIn a c → course k n t s m ≡ r
+reached k n a c s m r (e, h) w t q = rw (q, held-is a c (r .touched) w h) e
+
+repeat-wide : (n : ℕ) (s : State) (m : List ℕ) → Wide (repeatOf n s m .touched)
+unfolding repeatOf
+repeat-wide zero s m = tt
+repeat-wide (suc n) s m =
+    by-zero (λ (r : Course). Wide (r .touched)) (stepOf s m .number)
+    (λ _. last-wide (stepOf s m .touched) (repeatOf n (stepOf s m .machine .state) (stepOf s m .machine .memory) .touched) (step-wide s m) (repeat-wide n (stepOf s m .machine .state) (stepOf s m .machine .memory)))
+    (λ _. tt)
+
+pub run-wide : (n : ℕ) (s : State) (m : List ℕ) → Wide (runOf s m n .touched)
+unfolding runOf
+run-wide n s m = by-zero (λ (r : Course). Wide (r .touched)) (refusalOf s (length m)) (λ _. repeat-wide n s m) (λ _. tt)
 
 -- the run, by what the code finds
 module _ (s : State) (m : List ℕ) (b : ℕ) where
-  pub run-refused : (k : ℕ) → k ≡ refusalOf s (length m) → (k ≡ 0 → ⊥) → course k 0 s m ≡ runOf s m b
+  pub run-refused : (k : ℕ) → k ≡ refusalOf s (length m) → (k ≡ 0 → ⊥) → course k 0 Nothing s m ≡ runOf s m b
   unfolding runOf
   run-refused k e n = rw (← e, ne-eqb k 0 n)
 
@@ -105,16 +130,16 @@ within : (n : ℕ) (r : Course) → Total n r → r .steps ≤ n
 within n r (inl (e, h)) = omega (arith, h)
 within n r (inr (e, h)) = omega (arith, h)
 
-counted : (n : ℕ) (r : Course) → Total n r → Total (suc n) (later 1 r)
-counted n r (inl (e, h)) = inl (e, omega arith)
-counted n r (inr (e, h)) = inr (e, omega arith)
+counted : (n : ℕ) (t : Touched) (r : Course) → Total n r → Total (suc n) (later 1 t r)
+counted n t r (inl (e, h)) = inl (e, omega arith)
+counted n t r (inr (e, h)) = inr (e, omega arith)
 
 repeat-total : (n : ℕ) (s : State) (m : List ℕ) → Total n (repeatOf n s m)
 unfolding repeatOf
 repeat-total zero s m = inl (refl, refl)
 repeat-total (suc n) s m =
     by-zero (Total (suc n)) (stepOf s m .number)
-    (λ _. counted n (repeatOf n (stepOf s m .machine .state) (stepOf s m .machine .memory)) (repeat-total n (stepOf s m .machine .state) (stepOf s m .machine .memory)))
+    (λ _. counted n (stepOf s m .touched) (repeatOf n (stepOf s m .machine .state) (stepOf s m .machine .memory)) (repeat-total n (stepOf s m .machine .state) (stepOf s m .machine .memory)))
     (λ e. inr (e, omega arith))
 
 -- where a run exits, the step of the state reached exits so
@@ -131,20 +156,17 @@ repeat-ends (suc n) s m =
 
 -- a repetition of a + b is one of a, then one of b
 abbrev onward : Course → ℕ → Course
-onward r b = cond (eqb (r .number) 0) (later (r .steps) (repeatOf b (r .machine .state) (r .machine .memory))) r
+onward r b = cond (eqb (r .number) 0) (later (r .steps) (r .touched) (repeatOf b (r .machine .state) (r .machine .memory))) r
 
-later-zero : (r : Course) → later 0 r ≡ r
-later-zero r = let z : 0 + r .steps ≡ r .steps = omega arith in rw z
-
-later-onward : (r : Course) (b : ℕ) → later 1 (onward r b) ≡ onward (later 1 r) b
-later-onward r b = split (eqb (r .number) 0) (repeatOf b (r .machine .state) (r .machine .memory))
+later-onward : (y : Touched) (r : Course) (b : ℕ) → later 1 y (onward r b) ≡ onward (later 1 y r) b
+later-onward y r b = split (eqb (r .number) 0) (repeatOf b (r .machine .state) (r .machine .memory))
   where
-    split : (t : Bool) (x : Course) → later 1 (cond t (later (r .steps) x) r) ≡ cond t (later (1 + r .steps) x) (later 1 r)
-    split true x = let p : 1 + (r .steps + x .steps) ≡ 1 + r .steps + x .steps = omega arith in rw p
+    split : (t : Bool) (x : Course) → later 1 y (cond t (later (r .steps) (r .touched) x) r) ≡ cond t (later (1 + r .steps) (lastOf y (r .touched)) x) (later 1 y r)
+    split true x = let p : 1 + (r .steps + x .steps) ≡ 1 + r .steps + x .steps = omega arith in rw (p, last-joined y (r .touched) (x .touched))
     split false x = refl
 
-sum-step : (t : Bool) (o : Outcome) → eqb (o .number) 0 ≡ t → (x r : Course) (b : ℕ) → x ≡ onward r b → cond t (later 1 x) (halted o) ≡ onward (cond t (later 1 r) (halted o)) b
-sum-step true o e x r b h = rw h (later-onward r b)
+sum-step : (t : Bool) (o : Outcome) → eqb (o .number) 0 ≡ t → (x r : Course) (b : ℕ) → x ≡ onward r b → cond t (later 1 (o .touched) x) (halted o) ≡ onward (cond t (later 1 (o .touched) r) (halted o)) b
+sum-step true o e x r b h = rw h (later-onward (o .touched) r b)
 sum-step false o e x r b h = rw e
 
 repeat-sum : (a b : ℕ) (s : State) (m : List ℕ) → repeatOf (a + b) s m ≡ onward (repeatOf a s m) b
@@ -164,12 +186,12 @@ repeat-larger a b s m e h =
 
 module _ (s : State) (m : List ℕ) where
   -- by whether it is refused
-  by-refusal : (P : Course → Type 0) (n : ℕ) → (refusalOf s (length m) ≡ 0 → P (repeatOf n s m)) → ((k : ℕ) → k ≡ refusalOf s (length m) → (k ≡ 0 → ⊥) → P (course k 0 s m)) → P (runOf s m n)
+  by-refusal : (P : Course → Type 0) (n : ℕ) → (refusalOf s (length m) ≡ 0 → P (repeatOf n s m)) → ((k : ℕ) → k ≡ refusalOf s (length m) → (k ≡ 0 → ⊥) → P (course k 0 Nothing s m)) → P (runOf s m n)
   unfolding runOf
   by-refusal P n p q = by-zero P (refusalOf s (length m)) p (q (refusalOf s (length m)) refl)
 
   -- budget 0 completes none and says still running
-  pub run-zero : refusalOf s (length m) ≡ 0 → runOf s m 0 ≡ course 0 0 s m
+  pub run-zero : refusalOf s (length m) ≡ 0 → runOf s m 0 ≡ course 0 0 Nothing s m
   unfolding repeatOf
   run-zero z = sym (run-repeats s m 0 z)
 
@@ -242,7 +264,7 @@ module _ (s : State) (m : List ℕ) (t : Typed s) (b : Bytes m) where
   unfolding thenOf
   onward-then r n z = rw (run-repeats (r .machine .state) (r .machine .memory) n z)
 
-  then-refused : (k n : ℕ) → (k ≡ 0 → ⊥) → course k 0 s m ≡ thenOf (course k 0 s m) n
+  then-refused : (k n : ℕ) → (k ≡ 0 → ⊥) → course k 0 Nothing s m ≡ thenOf (course k 0 Nothing s m) n
   unfolding thenOf
   then-refused k n e = rw (ne-eqb k 0 e)
 
@@ -261,7 +283,7 @@ module _ (s : State) (m : List ℕ) (t : Typed s) (b : Bytes m) where
   unfolding repeatOf afterOf
   repeat-more n z = rw (run-repeats (stepOf s m .machine .state) (stepOf s m .machine .memory) n (step-unrefused z))
 
-  after-refused : (k n : ℕ) → k ≡ refusalOf s (length m) → (k ≡ 0 → ⊥) → course k 0 s m ≡ afterOf (stepOf s m) n
+  after-refused : (k n : ℕ) → k ≡ refusalOf s (length m) → (k ≡ 0 → ⊥) → course k 0 Nothing s m ≡ afterOf (stepOf s m) n
   unfolding afterOf
   after-refused k n q e = rw (← step-refused s m k q e, ne-eqb k 0 e)
 
@@ -279,3 +301,35 @@ module _ (s : State) (m : List ℕ) (t : Typed s) (b : Bytes m) where
 
   pub run-numbers : (n : ℕ) → refusalOf s (length m) ≡ 0 → (runOf s m n .number ≡ 0) ⊎ ((40 ≤ runOf s m n .number) × (runOf s m n .number ≤ 52))
   run-numbers n z = numbered n z (eqb (runOf s m n .number) 0) refl
+
+-- ---- the last access of a run
+
+none-at-zero : (s : State) (m : List ℕ) → runOf s m 0 .touched ≡ Nothing
+unfolding runOf repeatOf
+none-at-zero s m = by-zero (λ (r : Course). r .touched ≡ Nothing) (refusalOf s (length m)) (λ _. refl) (λ _. refl)
+
+then-touched : (r : Course) (n : ℕ) → r .number ≡ 0 → thenOf r n .touched ≡ lastOf (r .touched) (runOf (r .machine .state) (r .machine .memory) n .touched)
+unfolding thenOf
+then-touched r n e = rw e
+
+after-touched : (o : Outcome) → o .number ≡ 0 → afterOf o 0 .touched ≡ o .touched
+unfolding afterOf
+after-touched o e = rw (e, none-at-zero (o .machine .state) (o .machine .memory))
+
+-- one step more at the end of a run
+module _ (s : State) (m : List ℕ) (t : Typed s) (b : Bytes m) (n : ℕ) (running : runOf s m n .number ≡ 0) where
+  abbrev next : Outcome
+  next = stepOf (runOf s m n .machine .state) (runOf s m n .machine .memory)
+
+  touched-next : next .number ≡ 0 → runOf s m (n + 1) .touched ≡ lastOf (runOf s m n .touched) (next .touched)
+  touched-next e =
+      let more = run-more (runOf s m n .machine .state) (runOf s m n .machine .memory) (run-typed n s m b t) (run-bytes n s m b) 0 in
+      ap (λ r. r .touched) (run-sum s m t b n 1) ∙ (then-touched (runOf s m n) 1 running ∙ ap (lastOf (runOf s m n .touched)) (ap (λ r. r .touched) more ∙ after-touched next e))
+
+  -- with an access, which is then the last
+  pub run-touches : next .number ≡ 0 → (next .touched ≡ Nothing → ⊥) → runOf s m (n + 1) .touched ≡ next .touched
+  run-touches e h = touched-next e ∙ last-some (runOf s m n .touched) (next .touched) h
+
+  -- without one, and the last stays
+  pub run-touches-none : next .number ≡ 0 → next .touched ≡ Nothing → runOf s m (n + 1) .touched ≡ runOf s m n .touched
+  run-touches-none e h = touched-next e ∙ last-none (runOf s m n .touched) (next .touched) h

@@ -19,6 +19,10 @@ use Rattle.isa.proofs.RoundTrip.{Operands, read-operands}
 use Rattle.effect.specs.declared.effect.Special.{Special}
 use Rattle.effect.specs.declared.effect.Effect.{Effect}
 use Rattle.effect.specs.declared.effect.Effect.the-variants.{Exit, Advance, Write, Pair, Jump, Link, LoadByte, LoadHalf, LoadWord, LoadLinked, StoreByte, StoreHalf, StoreWord, StoreLinked, Control, Return}
+use Rattle.effect.specs.declared.effect.Touched.{Touched}
+use Rattle.effect.specs.declared.effect.Touched.the-variants.{Nothing, Load, Store}
+use Rattle.effect.specs.Touched.{touchedOf}
+use Rattle.effect.proofs.Touched.{Wide, touched-wide}
 use Rattle.effect.specs.Exit.{noInstruction, fetchOutside}
 use Rattle.decision.specs.Decision.{decisionOf}
 use Rattle.effect.specs.Sound.{Sound}
@@ -26,8 +30,8 @@ use Rattle.decision.proofs.Sound.{exits, decision-sound}
 use Rattle.machine.specs.declared.state.State.{State}
 use Rattle.machine.specs.State.{registerOf, specialOf, joinOf, isLawful, refusalOf, Typed, Bytes}
 use Rattle.apply.specs.Apply.{Parts, parts, appliedOf}
-use Rattle.machine.specs.Apply.{Span, span, joined, applyOf, storedOf, Outside}
-use Rattle.machine.specs.Step.{effectOf, readEffect, effectAt, readAccess, accessAt, exitOf, Outcome, outcome, tryOf, stepOf}
+use Rattle.machine.specs.Apply.{Span, span, joined, applyOf, spanOf, storedIn, storedOf, Outside}
+use Rattle.machine.specs.Step.{effectOf, readEffect, effectAt, readAccess, accessAt, exitOf, Outcome, stepped, outcome, tryOf, stepOf}
 use Rattle.machine.proofs.Valid.{Valid, valid, valid-lawful, typed, apply-valid, apply-zero}
 
 -- ---- the effect of a step is sound
@@ -90,6 +94,24 @@ applied-exit (StoreLinked r a v) l c m n = absurd (n refl)
 applied-exit (Control r v) l c m n = absurd (n refl)
 applied-exit (Return x) l c m n = absurd (n refl)
 
+pub touched-exit : (e : Effect) → (exitOf e ≡ 0 → ⊥) → touchedOf e ≡ Nothing
+touched-exit (Exit e) n = refl
+touched-exit Advance n = refl
+touched-exit (Write r v) n = refl
+touched-exit (Pair h o) n = refl
+touched-exit (Jump t) n = refl
+touched-exit (Link r v t) n = refl
+touched-exit (LoadByte r a x) n = absurd (n refl)
+touched-exit (LoadHalf r a x) n = absurd (n refl)
+touched-exit (LoadWord r a) n = absurd (n refl)
+touched-exit (LoadLinked r a) n = absurd (n refl)
+touched-exit (StoreByte a v) n = absurd (n refl)
+touched-exit (StoreHalf a v) n = absurd (n refl)
+touched-exit (StoreWord a v) n = absurd (n refl)
+touched-exit (StoreLinked r a v) n = absurd (n refl)
+touched-exit (Control r v) n = refl
+touched-exit (Return x) n = refl
+
 apply-exit : (e : Effect) (s : State) (m : List ℕ) → (exitOf e ≡ 0 → ⊥) → applyOf e s m ≡ record { state = s; memory = m }
 apply-exit e s m n = ap joined (applied-exit e (s .registers) (specialOf s) m n)
 
@@ -106,12 +128,12 @@ module _ (s : State) (m : List ℕ) where
   step-refused k e n = rw (← e, ne-eqb k 0 n)
 
   abbrev tried : Effect → Parts → Outcome
-  tried e x = record { number = exitOf e; machine = joined x }
+  tried e x = record { number = exitOf e; touched = touchedOf e; machine = joined x }
 
-  pub step-done : refusalOf s (length m) ≡ 0 → (c : Special) → c ≡ specialOf s → (e : Effect) → e ≡ effectAt s m → (l : List ℕ) (d : Special) (x : List ℕ) → parts l d x ≡ appliedOf e (s .registers) c m → (k : ℕ) → k ≡ exitOf e → (t : State) → t ≡ joinOf l d → outcome k t x ≡ stepOf s m
+  pub step-done : refusalOf s (length m) ≡ 0 → (c : Special) → c ≡ specialOf s → (e : Effect) → e ≡ effectAt s m → (l : List ℕ) (d : Special) (x : List ℕ) → parts l d x ≡ appliedOf e (s .registers) c m → (k : ℕ) → k ≡ exitOf e → (y : Touched) → y ≡ touchedOf e → (t : State) → t ≡ joinOf l d → stepped k y t x ≡ stepOf s m
   unfolding stepOf tryOf
-  step-done z c p e q l d x a k n t j =
-      rw (n, j) (ap (tried e) a ∙ rw (z, ← q, p))
+  step-done z c p e q l d x a k n y o t j =
+      rw (n, o, j) (ap (tried e) a ∙ rw (z, ← q, p))
 
 -- an exit and a refusal change no state and no memory
 pub exit-leaves : (s : State) (m : List ℕ) → (stepOf s m .number ≡ 0 → ⊥) → stepOf s m .machine ≡ record { state = s; memory = m }
@@ -257,24 +279,34 @@ step-keeps s m i h =
     (λ _. apply-memory (λ x y. Outside i x → getD y i 0 ≡ getD m i 0) s m (λ _. refl) (λ w a v. ⊎-elim (store-below w m a v i) (store-above w m a v i)) (effectAt s m) h)
     (λ k n. refl)
 
--- what a sound effect stores is its instruction's access
+-- what a sound effect touches is its instruction's access
+touched-of : {n at w : ℕ} (e : Effect) → Sound e n at w → (touchedOf e ≡ Nothing) ⊎ (spanOf (touchedOf e) ≡ span at w)
+touched-of (Exit e) k = inl refl
+touched-of Advance k = inl refl
+touched-of (Write r v) k = inl refl
+touched-of (Pair h l) k = inl refl
+touched-of (Jump t) k = inl refl
+touched-of (Link r v t) k = inl refl
+touched-of (LoadByte r a x) k = inr (rw (k .keeps .1 .same-address, k .keeps .1 .same-width))
+touched-of (LoadHalf r a x) k = inr (rw (k .keeps .1 .same-address, k .keeps .1 .same-width))
+touched-of (LoadWord r a) k = inr (rw (k .keeps .1 .same-address, k .keeps .1 .same-width))
+touched-of (LoadLinked r a) k = inr (rw (k .keeps .1 .same-address, k .keeps .1 .same-width))
+touched-of (StoreByte a v) k = inr (rw (k .keeps .same-address, k .keeps .same-width))
+touched-of (StoreHalf a v) k = inr (rw (k .keeps .same-address, k .keeps .same-width))
+touched-of (StoreWord a v) k = inr (rw (k .keeps .same-address, k .keeps .same-width))
+touched-of (StoreLinked r a v) k = inr (rw (k .keeps .1 .same-address, k .keeps .1 .same-width))
+touched-of (Control r v) k = inl refl
+touched-of (Return x) k = inl refl
+
+-- and so is what it stores
+stored-in : (t : Touched) (x : Span) → (t ≡ Nothing) ⊎ (spanOf t ≡ x) → (storedIn t .width ≡ 0) ⊎ (storedIn t ≡ x)
+stored-in Nothing x h = inl refl
+stored-in (Load a w) x h = inl refl
+stored-in (Store a w) x (inl e) = inl (ap (λ t. storedIn t .width) e)
+stored-in (Store a w) x (inr e) = inr e
+
 stored-of : {n at w : ℕ} (e : Effect) → Sound e n at w → (storedOf e .width ≡ 0) ⊎ (storedOf e ≡ span at w)
-stored-of (Exit e) k = inl refl
-stored-of Advance k = inl refl
-stored-of (Write r v) k = inl refl
-stored-of (Pair h l) k = inl refl
-stored-of (Jump t) k = inl refl
-stored-of (Link r v t) k = inl refl
-stored-of (LoadByte r a x) k = inl refl
-stored-of (LoadHalf r a x) k = inl refl
-stored-of (LoadWord r a) k = inl refl
-stored-of (LoadLinked r a) k = inl refl
-stored-of (StoreByte a v) k = inr (rw (k .keeps .same-address, k .keeps .same-width))
-stored-of (StoreHalf a v) k = inr (rw (k .keeps .same-address, k .keeps .same-width))
-stored-of (StoreWord a v) k = inr (rw (k .keeps .same-address, k .keeps .same-width))
-stored-of (StoreLinked r a v) k = inr (rw (k .keeps .1 .same-address, k .keeps .1 .same-width))
-stored-of (Control r v) k = inl refl
-stored-of (Return x) k = inl refl
+stored-of e k = stored-in (touchedOf e) _ (touched-of e k)
 
 -- a step that does not store leaves memory
 pub step-leaves : (s : State) (m : List ℕ) → storedOf (effectAt s m) .width ≡ 0 → stepOf s m .machine .memory ≡ m
@@ -291,3 +323,16 @@ step-outside s m v b i h =
     (λ z. rw (step-leaves s m z))
     (λ e. step-keeps s m i (rw e h))
     (stored-of (effectAt s m) (effect-sound s m v b))
+
+-- what a step touched is its access, where it touched anything
+pub step-touches : (s : State) (m : List ℕ) → Valid s → Bytes m → (stepOf s m .touched ≡ Nothing) ⊎ (spanOf (stepOf s m .touched) ≡ accessAt s m)
+unfolding tryOf
+step-touches s m v b =
+    by-refusal (λ o. (o .touched ≡ Nothing) ⊎ (spanOf (o .touched) ≡ accessAt s m)) s m
+    (λ _. touched-of (effectAt s m) (effect-sound s m v b))
+    (λ k n. inl refl)
+
+-- and that has a byte or more
+pub step-wide : (s : State) (m : List ℕ) → Wide (stepOf s m .touched)
+unfolding tryOf
+step-wide s m = by-refusal (λ o. Wide (o .touched)) s m (λ _. touched-wide (effectAt s m)) (λ k n. tt)

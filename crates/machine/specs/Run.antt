@@ -1,37 +1,47 @@
 -- A run: the step repeated until the budget is spent or a step does not complete (document 01, Machine).
 use Prim.Native.Nat.{ℕ, zero, suc, _+_}
+use mathlib.Core.Path.{_≡_}
 use mathlib.Core.Bool.{cond}
 use mathlib.Core.List.{List}
 use lib.Dec.{eqb}
 use lib.ListN.{length}
+use Rattle.effect.specs.declared.effect.Touched.{Touched}
+use Rattle.effect.specs.declared.effect.Touched.the-variants.{Nothing}
+use Rattle.effect.specs.Touched.{lastOf, Held}
 use Rattle.machine.specs.declared.state.State.{State}
 use Rattle.machine.specs.State.{refusalOf}
 use Rattle.machine.specs.Apply.{Machine}
 use Rattle.machine.specs.Step.{Outcome, outcome, stepOf}
 
--- the number that a run answers (0: still running), the steps completed, and the state and memory reached
+-- the number that a run answers (0: still running), the steps completed, the last access among them (document 02, Ticket 1), and the state and
+-- memory reached
 pub record Course : Type 0 where
   pub number : ℕ
   pub steps : ℕ
+  pub touched : Touched
   pub machine : Machine
 
-abbrev pub course : ℕ → ℕ → State → List ℕ → Course
-course k n s m = record { number = k; steps = n; machine = record { state = s; memory = m } }
+abbrev pub course : ℕ → ℕ → Touched → State → List ℕ → Course
+course k n t s m = record { number = k; steps = n; touched = t; machine = record { state = s; memory = m } }
+
+-- a run that is told in numbers: all but its access equals the run's, and two words hold that
+abbrev pub Reaches : ℕ → ℕ → ℕ → ℕ → State → List ℕ → Course → Type 0
+Reaches k n a c s m r = (course k n (r .touched) s m ≡ r) × Held a c (r .touched)
 
 -- no step completed
 abbrev pub halted : Outcome → Course
-halted o = record { number = o .number; steps = 0; machine = o .machine }
+halted o = record { number = o .number; steps = 0; touched = Nothing; machine = o .machine }
 
--- the same, begun n steps earlier
-abbrev pub later : ℕ → Course → Course
-later n r = record { number = r .number; steps = n + r .steps; machine = r .machine }
+-- the same, begun n steps earlier; t is the last access among these, and counts where there is none after it
+abbrev pub later : ℕ → Touched → Course → Course
+later n t r = record { number = r .number; steps = n + r .steps; touched = lastOf t (r .touched); machine = r .machine }
 
 -- the exiting step isn't counted
 unfoldable pub repeatOf : ℕ → State → List ℕ → Course
 repeatOf zero s m = halted (outcome 0 s m)
 repeatOf (suc n) s m =
     cond (eqb (stepOf s m .number) 0)
-    (later 1 (repeatOf n (stepOf s m .machine .state) (stepOf s m .machine .memory)))
+    (later 1 (stepOf s m .touched) (repeatOf n (stepOf s m .machine .state) (stepOf s m .machine .memory)))
     (halted (stepOf s m))
 
 -- budget 0 completes none and says still running, where nothing is refused
@@ -42,8 +52,8 @@ runOf s m budget =
 -- a run, and where it is still running one more from the state and memory that it reached
 unfoldable pub thenOf : Course → ℕ → Course
 thenOf r budget =
-    cond (eqb (r .number) 0) (later (r .steps) (runOf (r .machine .state) (r .machine .memory) budget)) r
+    cond (eqb (r .number) 0) (later (r .steps) (r .touched) (runOf (r .machine .state) (r .machine .memory) budget)) r
 
 -- a step, and where it completes a run
 unfoldable pub afterOf : Outcome → ℕ → Course
-afterOf o budget = cond (eqb (o .number) 0) (later 1 (runOf (o .machine .state) (o .machine .memory) budget)) (halted o)
+afterOf o budget = cond (eqb (o .number) 0) (later 1 (o .touched) (runOf (o .machine .state) (o .machine .memory) budget)) (halted o)

@@ -12,6 +12,9 @@ use Rattle.isa.specs.Reading.{readOf}
 use Rattle.class.specs.Class.{classOf}
 use Rattle.effect.specs.declared.effect.Effect.{Effect}
 use Rattle.effect.specs.declared.effect.Effect.the-variants.{Exit, Advance, Write, Pair, Jump, Link, LoadByte, LoadHalf, LoadWord, LoadLinked, StoreByte, StoreHalf, StoreWord, StoreLinked, Control, Return}
+use Rattle.effect.specs.declared.effect.Touched.{Touched}
+use Rattle.effect.specs.declared.effect.Touched.the-variants.{Nothing, Load, Store}
+use Rattle.effect.specs.Touched.{touchedOf}
 use Rattle.effect.specs.Exit.{noInstruction, fetchOutside}
 use Rattle.access.specs.Access.{addressOf}
 use Rattle.decision.specs.Decision.{decisionOf}
@@ -39,7 +42,7 @@ abbrev pub readAccess : Reading → State → Span
 readAccess NoInstruction s = span 0 0
 readAccess (Legal i) s = instructionAccess i s
 
--- the access of a step; an SC counts also where it does not store
+-- the access that a step tries; an SC counts also where it does not store, and any access where the step exits
 unfoldable pub accessAt : State → List ℕ → Span
 accessAt s m = cond (leb (s .pc + 4) (length m)) (readAccess (readOf (loadOf 4 m (s .pc))) s) (span 0 0)
 
@@ -62,17 +65,23 @@ exitOf (StoreLinked r a v) = 0
 exitOf (Control r v) = 0
 exitOf (Return s) = 0
 
--- the number that a call answers, and the state and memory that it leaves
+-- the number that a call answers, what it touched (document 02, Ticket 1: the access that its step completed), and the state and memory that it
+-- leaves
 pub record Outcome : Type 0 where
   pub number : ℕ
+  pub touched : Touched
   pub machine : Machine
 
+abbrev pub stepped : ℕ → Touched → State → List ℕ → Outcome
+stepped k t s m = record { number = k; touched = t; machine = record { state = s; memory = m } }
+
+-- a call that completes no step
 abbrev pub outcome : ℕ → State → List ℕ → Outcome
-outcome k s m = record { number = k; machine = record { state = s; memory = m } }
+outcome k s m = stepped k Nothing s m
 
 -- a step that nothing refuses
 unfoldable pub tryOf : State → List ℕ → Outcome
-tryOf s m = record { number = exitOf (effectAt s m); machine = applyOf (effectAt s m) s m }
+tryOf s m = record { number = exitOf (effectAt s m); touched = touchedOf (effectAt s m); machine = applyOf (effectAt s m) s m }
 
 unfoldable pub stepOf : State → List ℕ → Outcome
 stepOf s m = cond (eqb (refusalOf s (length m)) 0) (tryOf s m) (outcome (refusalOf s (length m)) s m)

@@ -10,11 +10,13 @@ ghost use Rattle.machine.specs.Step as Spec;
 use crate::state::State;
 use effect::effect::Effect;
 use effect::effect::Special;
+use effect::effect::Touched;
 use isa::reading::Reading;
 
-// The outcome's number, and the state that the step leaves.
+// The outcome's number, the access that the step completes, and the state that it leaves.
 pub struct Stepped {
     pub number: u32,
+    pub touched: Touched,
     pub state: State,
 }
 
@@ -81,21 +83,24 @@ pub(crate) fn exit_of(e: Effect) -> u32
 
 impl State {
     pub fn step(self, memory: &mut [u8]) -> Stepped
-        ensures { λ r. ⌜ Spec.outcome (r .number) (r .state) (now (memory .exit)) ≡ Spec.stepOf self (now (memory .entry)) ⌝ }
+        ensures { λ r. ⌜ Spec.stepped (r .number) (r .touched) (r .state) (now (memory .exit)) ≡ Spec.stepOf self (now (memory .entry)) ⌝ }
     {
         let refused = self.refusal(memory.len());
         if refused != 0 {
             return Stepped {
                 number: refused,
+                touched: Touched::Nothing,
                 state: self,
             };
         }
         let mut registers = self.registers;
         let special = self.special();
         let e = effect_at(special, &registers, memory);
-        let after = apply::apply(e, special, &mut registers, memory);
+        let mut last: [u32; 2] = [0; 2];
+        let after = apply::apply(e, special, &mut registers, memory, &mut last);
         Stepped {
             number: exit_of(e),
+            touched: apply::touched(last[0], last[1]),
             state: crate::state::join(registers, after),
         }
     }

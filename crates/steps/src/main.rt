@@ -50,7 +50,7 @@ fn print_memory(before: &[u8], after: &[u8]) {
 fn steps(state: &mut [u8], memory: &mut [u8], count: u32) -> u32 {
     let mut done: u32 = 0;
     while done < count {
-        let number = cc100_step::cc100_step(state, memory);
+        let number = cc100_step::cc100_step(state, memory).number;
         if number != 0 {
             return number;
         }

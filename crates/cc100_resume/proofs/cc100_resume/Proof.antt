@@ -19,7 +19,7 @@ returns-2 c =
 returns-3 : tie.Need-returns-3
 returns-3 c =
     let a = c .before .before .before .before .before .before .before .before .before .before .before .before .before .before .before .args in
-    call-done (now (a .state)) (now (a .memory)) _ (c .before .before .before .before .before .before .before .before .before .before .before .read-state .ensures) (c .before .before .before .before .before .before .before .before .before .if1 .left) _ _ _ (c .before .before .encode .ensures) (λ s. resumeOf s (now (a .memory))) _ _ (c .before .before .before .before .before .before .before .resume .ensures)
+    call-done (now (a .state)) (now (a .memory)) _ (c .before .before .before .before .before .before .before .before .before .before .before .read-state .ensures) (c .before .before .before .before .before .before .before .before .before .if1 .left) _ _ _ (c .before .before .encode .ensures) (λ s. resumeOf s (now (a .memory))) _ _ _ (c .before .before .before .before .before .before .before .resume .ensures)
 
 pub cc100-resume-spec : {M : Type 1} → statement M
 cc100-resume-spec =

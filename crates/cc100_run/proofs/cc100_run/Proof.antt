@@ -11,8 +11,12 @@ returns c =
 
 returns-2 : tie.Need-returns-2
 returns-2 c =
-    let a = c .before .before .before .before .before .before .before .before .before .before .before .before .before .before .before .before .args in
-    run-call-done (now (a .state)) (now (a .memory)) _ (c .before .before .before .before .before .before .before .before .before .before .before .before .read-state .ensures) (c .before .before .before .before .before .before .before .before .before .before .if1 .left) _ _ _ (c .before .before .encode .ensures) _ _ _ (a .budget) (c .before .before .before .before .before .before .before .run .ensures)
+    let encoded = c .before .before .before .before in
+    let done = encoded .before .before .before .before .before in
+    let test = done .before .before .before in
+    let read = test .before .before in
+    let a = read .before .before .before .before .args in
+    run-call-done (now (a .state)) (now (a .memory)) _ (read .read-state .ensures) (test .if1 .left) _ _ _ (encoded .encode .ensures) _ _ _ _ _ (a .budget) (done .run-words .ensures)
 
 pub cc100-run-spec : {M : Type 1} → statement M
 cc100-run-spec =

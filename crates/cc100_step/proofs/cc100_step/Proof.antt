@@ -12,8 +12,12 @@ returns c =
 
 returns-2 : tie.Need-returns-2
 returns-2 c =
-    let a = c .before .before .before .before .before .before .before .before .before .before .before .before .before .before .before .before .args in
-    call-done (now (a .state)) (now (a .memory)) _ (c .before .before .before .before .before .before .before .before .before .before .before .before .read-state .ensures) (c .before .before .before .before .before .before .before .before .before .before .if1 .left) _ _ _ (c .before .before .encode .ensures) (λ s. stepOf s (now (a .memory))) _ _ (c .before .before .before .before .before .before .before .step .ensures)
+    let encoded = c .before .before .before in
+    let done = encoded .before .before .before .before .before in
+    let test = done .before .before .before in
+    let read = test .before .before in
+    let a = read .before .before .before .before .args in
+    rw (c .cell .ensures) (call-done (now (a .state)) (now (a .memory)) _ (read .read-state .ensures) (test .if1 .left) _ _ _ (encoded .encode .ensures) (λ s. stepOf s (now (a .memory))) _ _ _ (done .step .ensures))
 
 pub cc100-step-spec : {M : Type 1} → statement M
 cc100-step-spec =
@@ -22,6 +26,7 @@ cc100-step-spec =
     (λ c κs. search needs)
     (λ c. search needs)
     returns
+    (λ c κs. search needs)
     (λ c κs. search needs)
     (λ c κs. search needs)
     (λ c. search needs)

@@ -59,7 +59,7 @@ returns-3 c =
     let s : State = joinOf (now (a .registers)) (a .c) in
     let i : Instruction = told .i .given .0 .0 in
     let k = known .struct-known .given in
-    let w : Words (a .c) = record { hi = k .0 .fits; lo = k .1 .0 .fits; pc = k .1 .1 .0 .fits; next-pc = k .1 .1 .1 .0 .fits; bad = k .1 .1 .1 .1 .1 .0 .fits; status = k .1 .1 .1 .1 .1 .1 .0 .fits; cause = k .1 .1 .1 .1 .1 .1 .1 .0 .fits; epc = k .1 .1 .1 .1 .1 .1 .1 .1 .0 .fits } in
+    let w : Words (a .c) = record { hi = k .0 .fits; pc = k .1 .0 .fits; lo = k .1 .1 .0 .fits; next-pc = k .1 .1 .1 .0 .fits; bad = k .1 .1 .1 .1 .1 .0 .fits; status = k .1 .1 .1 .1 .1 .1 .0 .fits; cause = k .1 .1 .1 .1 .1 .1 .1 .0 .fits; epc = k .1 .1 .1 .1 .1 .1 .1 .1 .0 .fits } in
     let o : Operands i = fetch-operands m _ _ _ i (λ x. known .before .shared-slice-known .given x .fits) (read .before .load32 .ensures) (read .read .ensures) (told .i .given .1) in
     let e : c .decide .result ≡ decisionOf i (registerOf (s .registers) (i .rs)) (registerOf (s .registers) (i .rt)) (specialOf s) (length m) = rw (c .decide .ensures, c .before .register2 .ensures .0, c .before .before .register .ensures .0) in (
       e ∙ fetch-decided s m (omega (arith, test .if1 .left)) _ _ (read .before .load32 .ensures) (read .read .ensures) i (told .i .given .1),

@@ -1,31 +1,14 @@
-use mathlib.Core.Path.{sym, _∙_}
 use denote.Ref.{now}
-use Rattle.machine.proofs.Runs.{run-refused, run-repeats}
+use Rattle.machine.proofs.Runs.{reached, run-wide}
 use borrow.Author.Needs.{needs}
 use Rattle.machine.proofs.state.State.run.Statement.{statement}
 use Rattle.machine.proofs.state.State.run.Tie as tie
 
 returns : tie.Need-returns
 returns c =
-    let a = c .before .before .before .args in
-    run-refused (a .self) (now (a .memory)) (a .budget) _ (c .before .refusal .ensures) (c .if1 .taken)
-
-repeat-requires : tie.Need-repeat-requires
-repeat-requires c κs = rw (c .before .before .special .ensures) (sym (c .before .before .before .before .before .refusal .ensures) ∙ c .before .before .before .before .if1 .left)
-
-returns-2 : tie.Need-returns-2
-returns-2 c =
-    let a = c .before .before .before .before .before .before .before .before .before .before .before .before .args in
-    rw (c .join .ensures) (c .before .before .before .before .repeat .ensures ∙ rw (c .before .before .before .before .before .before .before .special .ensures) (run-repeats (a .self) (now (a .memory)) (a .budget) (sym (c .before .before .before .before .before .before .before .before .before .before .refusal .ensures) ∙ c .before .before .before .before .before .before .before .before .before .if1 .left)))
+    let ran = c .before .before .before .before in
+    let a = ran .before .before .before .args in
+    reached _ _ _ _ _ _ _ (ran .run-words .ensures) (run-wide (a .budget) (a .self) (now (a .memory))) _ (c .touched .ensures)
 
 pub run-spec : {M : Type 1} → statement M
-run-spec =
-    tie.close
-    (tie.spec
-    (λ c κs. search needs)
-    returns
-    (λ c κs. search needs)
-    repeat-requires
-    (λ c κs. search needs)
-    (λ c. search needs)
-    returns-2)
+run-spec = tie.close (tie.spec (λ c κs. search needs) (λ c κs. search needs) (λ c. search needs) returns)
