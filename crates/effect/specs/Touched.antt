@@ -45,7 +45,7 @@ cellOf Nothing = cell 0 0 0
 cellOf (Load a w) = cell a w 0
 cellOf (Store a w) = cell a w 1
 
--- an access in two words: its address, and twice its width, one more for a store
+-- how the loop of a run keeps an access, in two words: its address, and twice its width, one more for a store; no answer to C is told by these
 abbrev pub codeOf : Cell → ℕ
 codeOf c = 2 * c .width + c .store
 
