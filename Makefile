@@ -11,7 +11,8 @@
 # make mips-test: QEMU's results, compared with the product's.
 # make program-test: a compiled C program on the product, its figures beside those that the same C gives natively.
 # make harness: the calls beside the second emulator, on random and damaged input; make harness ROUNDS=20: a longer run.
-# make bench: speed beside plain C and, where it is installed, Unicorn.
+# make bench: speed beside plain C and, where it is installed, Unicorn. make bench BEFORE=FILE: beside another archive too, whose calls have the
+# same arguments and answers.
 SHELL = /bin/bash
 VERSION = 1.2
 PREFIX = /usr/local
@@ -19,6 +20,8 @@ CC = cc
 CFLAGS = -O2 -Wall -Wextra -Werror -Iinclude -Ibench
 ARCHIVE = target/libcc100.a
 VERDICT = target/bin/verdict
+# The calls, behind cc100_.
+EXPORTED = check check_placed run step resume read write
 # Each of these is compiled by itself, so that what two calls share is inlined into both, and begins a page, so that its speed does not hang
 # on where a host's linker puts it.
 CALLS = cc100_instruction cc100_step cc100_run cc100_resume cc100_check cc100_check_placed
@@ -26,6 +29,8 @@ PAGE = 4096
 PLAIN = bench/plain_read.c bench/plain_step.c bench/plain_check.c
 # The benchmark of runs has one column more where Unicorn is installed (Debian's libunicorn-dev).
 UNICORN = $(shell pkg-config --exists unicorn 2> /dev/null && echo -DUNICORN bench/unicorn.c -lunicorn)
+# Another archive's calls, by names of their own.
+OTHER = $(if $(BEFORE),-DBEFORE target/bench/before.a)
 # The samples that have a source.
 ASSEMBLED = m margin
 EMULATOR = $(wildcard tests/emulator/*.c)
@@ -40,7 +45,7 @@ COMMAND = $(wildcard command/*.c)
 NAMED = -DVERSION='"$(VERSION)"'
 SANITIZED = -g -O1 -fsanitize=address,undefined -fno-sanitize-recover=all
 # What is installed, below PREFIX; each call has a manual page that leads to that of all.
-CALL_PAGES = $(addprefix share/man/man3/,$(addsuffix .3,cc100_check cc100_check_placed cc100_run cc100_step cc100_resume cc100_read cc100_write))
+CALL_PAGES = $(addprefix share/man/man3/,$(EXPORTED:%=cc100_%.3))
 INSTALLED = bin/cc100 bin/verdict include/cc100.h lib/libcc100.a lib/pkgconfig/cc100.pc share/man/man1/cc100.1 share/man/man3/cc100.3 $(CALL_PAGES)
 INTO = $(DESTDIR)$(PREFIX)
 FILLED = sed -e 's|@PREFIX@|$(PREFIX)|' -e 's|@VERSION@|$(VERSION)|'
@@ -145,9 +150,10 @@ harness: $(ARCHIVE)
 
 bench: $(ARCHIVE)
 	@mkdir -p target/bench
-	@$(CC) $(CFLAGS) -o target/bench/read bench/read.c $(PLAIN) $(ARCHIVE)
-	@$(CC) $(CFLAGS) -o target/bench/run bench/run.c $(PLAIN) $(ARCHIVE) $(UNICORN)
-	@$(CC) $(CFLAGS) -o target/bench/check bench/check.c $(PLAIN) $(ARCHIVE)
+	@[ -z "$(BEFORE)" ] || objcopy $(foreach c,$(EXPORTED),--redefine-sym cc100_$c=before_$c) $(BEFORE) target/bench/before.a
+	@$(CC) $(CFLAGS) -o target/bench/read bench/read.c $(PLAIN) $(ARCHIVE) $(OTHER)
+	@$(CC) $(CFLAGS) -o target/bench/run bench/run.c $(PLAIN) $(ARCHIVE) $(OTHER) $(UNICORN)
+	@$(CC) $(CFLAGS) -o target/bench/check bench/check.c $(PLAIN) $(ARCHIVE) $(OTHER)
 	@target/bench/read
 	@target/bench/run
 	@target/bench/check

@@ -1,10 +1,11 @@
-/* Speed of cc100_check and of the same in plain C, on accepted modules of the largest and of the smallest size: medians of interleaved
-   rounds on the same bytes. */
+/* Speed of cc100_check, of the same in plain C and of another archive (BEFORE), on accepted modules of the largest and of the smallest size:
+   medians of interleaved rounds on the same bytes. */
 #include <stdint.h>
 #include <stdio.h>
 #include <stdlib.h>
 #include <time.h>
 
+#include "before.h"
 #include "plain.h"
 
 #define ROUNDS 41
@@ -18,6 +19,18 @@
 #define DATA_SIZE 4096u
 
 typedef struct cc100_verdict checker(uint64_t, uint32_t, uint32_t, uint32_t, uint32_t, const uint8_t *, size_t);
+
+static const struct contender {
+    const char *name;
+    checker *check;
+} contenders[] = {
+    {"product", cc100_check},
+    {"plain C", plain_check},
+#ifdef BEFORE
+    {"before", before_check},
+#endif
+};
+#define CONTENDERS (sizeof contenders / sizeof contenders[0])
 
 static uint8_t large[LARGEST], small[SMALLEST];
 
@@ -147,17 +160,19 @@ static int ascending(const void *a, const void *b)
 /* Speeds are in a million of `unit` bytes. */
 static int compare(const char *name, const uint8_t *module, uint32_t length, const char *unit_name, uint32_t unit)
 {
-    double product[ROUNDS], plain[ROUNDS];
+    double seconds[CONTENDERS][ROUNDS];
     uint32_t wrong = 0;
-    for (int r = 0; r < ROUNDS; r++) {
-        product[r] = timed(cc100_check, module, length, &wrong);
-        plain[r] = timed(plain_check, module, length, &wrong);
+    for (size_t turn = 0; turn < ROUNDS * CONTENDERS; turn++)
+        seconds[turn % CONTENDERS][turn / CONTENDERS] = timed(contenders[turn % CONTENDERS].check, module, length, &wrong);
+    printf("check, %-25s", name);
+    for (size_t i = 0; i < CONTENDERS; i++) {
+        qsort(seconds[i], ROUNDS, sizeof(double), ascending);
+        printf("%s %s %6.1f", i == 0 ? "" : ",", contenders[i].name, WORK / unit / 1e6 / seconds[i][ROUNDS / 2]);
     }
-    qsort(product, ROUNDS, sizeof(double), ascending);
-    qsort(plain, ROUNDS, sizeof(double), ascending);
-    double a = product[ROUNDS / 2], b = plain[ROUNDS / 2], work = WORK / unit / 1e6;
-    printf("check, %-25s product %6.1f, plain C %6.1f %s, time ratio %.2f%s\n", name, work / a, work / b, unit_name, a / b,
-           wrong ? "  DIFFERENT ANSWERS" : "");
+    printf(" %s, time ratio to", unit_name);
+    for (size_t i = 1; i < CONTENDERS; i++)
+        printf("%s %s %.2f", i == 1 ? "" : ",", contenders[i].name, seconds[0][ROUNDS / 2] / seconds[i][ROUNDS / 2]);
+    printf("%s\n", wrong ? "  DIFFERENT ANSWERS" : "");
     return wrong != 0;
 }
 

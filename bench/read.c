@@ -1,9 +1,10 @@
-/* Words read per second by cc100_read and by the same in plain C: medians of interleaved passes over the same words. */
+/* Words read per second by cc100_read, by the same in plain C and by another archive (BEFORE): medians of interleaved passes over the same words. */
 #include <stdint.h>
 #include <stdio.h>
 #include <stdlib.h>
 #include <time.h>
 
+#include "before.h"
 #include "plain.h"
 
 #define WORDS 65536
@@ -11,6 +12,18 @@
 #define ROUNDS 41
 
 typedef struct cc100_instruction reader(uint32_t);
+
+static const struct contender {
+    const char *name;
+    reader *read;
+} contenders[] = {
+    {"product", cc100_read},
+    {"plain C", plain_read},
+#ifdef BEFORE
+    {"before", before_read},
+#endif
+};
+#define CONTENDERS (sizeof contenders / sizeof contenders[0])
 
 static uint32_t words[WORDS];
 static uint32_t seed = 1;
@@ -63,18 +76,24 @@ static int ascending(const void *a, const void *b)
 
 static int compare(const char *name)
 {
-    double product[ROUNDS], plain[ROUNDS];
-    uint64_t sum_product = 0, sum_plain = 0;
-    for (int r = 0; r < ROUNDS; r++) {
-        product[r] = timed(cc100_read, &sum_product);
-        plain[r] = timed(plain_read, &sum_plain);
+    double seconds[CONTENDERS][ROUNDS];
+    uint64_t sums[CONTENDERS] = {0};
+    int wrong = 0;
+    for (size_t turn = 0; turn < ROUNDS * CONTENDERS; turn++) {
+        size_t i = turn % CONTENDERS;
+        seconds[i][turn / CONTENDERS] = timed(contenders[i].read, &sums[i]);
     }
-    qsort(product, ROUNDS, sizeof(double), ascending);
-    qsort(plain, ROUNDS, sizeof(double), ascending);
-    double a = product[ROUNDS / 2], b = plain[ROUNDS / 2];
-    printf("%-28s product %6.1f, plain C %6.1f million words/s, time ratio %.2f%s\n", name, PASSES * WORDS / a / 1e6, PASSES * WORDS / b / 1e6,
-           a / b, sum_product == sum_plain ? "" : "  DIFFERENT ANSWERS");
-    return sum_product != sum_plain;
+    printf("%-28s", name);
+    for (size_t i = 0; i < CONTENDERS; i++) {
+        qsort(seconds[i], ROUNDS, sizeof(double), ascending);
+        printf("%s %s %6.1f", i == 0 ? "" : ",", contenders[i].name, PASSES * WORDS / seconds[i][ROUNDS / 2] / 1e6);
+        wrong |= sums[i] != sums[0];
+    }
+    printf(" million words/s, time ratio to");
+    for (size_t i = 1; i < CONTENDERS; i++)
+        printf("%s %s %.2f", i == 1 ? "" : ",", contenders[i].name, seconds[0][ROUNDS / 2] / seconds[i][ROUNDS / 2]);
+    printf("%s\n", wrong ? "  DIFFERENT ANSWERS" : "");
+    return wrong;
 }
 
 int main(void)

@@ -1,5 +1,5 @@
-/* Steps per second of cc100_run and cc100_step, of the same in plain C and, where it is installed, of Unicorn (QEMU's translator): medians of
-   interleaved rounds on the same loops.
+/* Steps per second of cc100_run and cc100_step, of the same in plain C, of another archive (BEFORE) and, where it is installed, of Unicorn (QEMU's
+   translator): medians of interleaved rounds on the same loops.
 
    State and memory lie elsewhere in each round, the same for product and plain C, so that lucky and unlucky places average out. */
 #include <stdint.h>
@@ -8,6 +8,7 @@
 #include <string.h>
 #include <time.h>
 
+#include "before.h"
 #include "run.h"
 
 #define TURNS 1000000u /* of a loop */
@@ -98,11 +99,14 @@ double now(void)
     return (double)t.tv_sec + (double)t.tv_nsec * 1e-9;
 }
 
-static double run_product(uint8_t *room, uint8_t *memory, struct answer *a)
+typedef cc100_ran runner(uint8_t *, size_t, uint8_t *, size_t, uint32_t);
+typedef cc100_stepped stepper(uint8_t *, size_t, uint8_t *, size_t);
+
+static double run_by(runner *run, uint8_t *room, uint8_t *memory, struct answer *a)
 {
     memcpy(room, a->state, CC100_STATE_LENGTH);
     double from = now();
-    cc100_ran ran = cc100_run(room, CC100_STATE_LENGTH, memory, MEMORY, MOST_STEPS);
+    cc100_ran ran = run(room, CC100_STATE_LENGTH, memory, MEMORY, MOST_STEPS);
     double seconds = now() - from;
     memcpy(a->state, room, CC100_STATE_LENGTH);
     a->number = ran.number;
@@ -110,16 +114,23 @@ static double run_product(uint8_t *room, uint8_t *memory, struct answer *a)
     return seconds;
 }
 
-static double step_product(uint8_t *room, uint8_t *memory, struct answer *a)
+static double step_by(stepper *step, uint8_t *room, uint8_t *memory, struct answer *a)
 {
     memcpy(room, a->state, CC100_STATE_LENGTH);
     double from = now();
-    while ((a->number = cc100_step(room, CC100_STATE_LENGTH, memory, MEMORY).number) == CC100_DONE)
+    while ((a->number = step(room, CC100_STATE_LENGTH, memory, MEMORY).number) == CC100_DONE)
         a->steps++;
     double seconds = now() - from;
     memcpy(a->state, room, CC100_STATE_LENGTH);
     return seconds;
 }
+
+static double run_product(uint8_t *room, uint8_t *memory, struct answer *a) { return run_by(cc100_run, room, memory, a); }
+static double step_product(uint8_t *room, uint8_t *memory, struct answer *a) { return step_by(cc100_step, room, memory, a); }
+#ifdef BEFORE
+static double run_before(uint8_t *room, uint8_t *memory, struct answer *a) { return run_by(before_run, room, memory, a); }
+static double step_before(uint8_t *room, uint8_t *memory, struct answer *a) { return step_by(before_step, room, memory, a); }
+#endif
 
 /* Plain C has its state as a struct: making that from bytes and back is not timed. */
 static double run_plain(uint8_t *room, uint8_t *memory, struct answer *a)
@@ -201,11 +212,14 @@ static int compare(const char *what, const struct loop *loop, const struct conte
         wrong |= differs(&answers[0], &answers[i]);
     }
     printf("%s, %-25s", what, loop->name);
-    for (size_t i = 0; i < count; i++) {
+    for (size_t i = 0; i < count; i++)
         qsort(seconds[i], ROUNDS, sizeof(double), ascending);
+    for (size_t i = 0; i < count; i++)
         printf("%s %6.1f, ", contenders[i].name, answers[0].steps / seconds[i][ROUNDS / 2] / 1e6);
-    }
-    printf("million steps/s, time ratio %.2f%s\n", seconds[0][ROUNDS / 2] / seconds[1][ROUNDS / 2], wrong ? "  DIFFERENT ANSWERS" : "");
+    printf("million steps/s, time ratio to");
+    for (size_t i = 1; i < count; i++)
+        printf("%s %s %.2f", i == 1 ? "" : ",", contenders[i].name, seconds[0][ROUNDS / 2] / seconds[i][ROUNDS / 2]);
+    printf("%s\n", wrong ? "  DIFFERENT ANSWERS" : "");
     return wrong;
 }
 
@@ -216,11 +230,20 @@ int main(void)
     static const struct contender runs[] = {
         {"product", run_product},
         {"plain C", run_plain},
+#ifdef BEFORE
+        {"before", run_before},
+#endif
 #ifdef UNICORN
         {"Unicorn", run_unicorn},
 #endif
     };
-    static const struct contender steps[] = {{"product", step_product}, {"plain C", step_plain}};
+    static const struct contender steps[] = {
+        {"product", step_product},
+        {"plain C", step_plain},
+#ifdef BEFORE
+        {"before", step_before},
+#endif
+    };
     int wrong = 0;
     for (size_t i = 0; i < COUNT(loops); i++)
         wrong |= compare("run", &loops[i], runs, COUNT(runs));

@@ -7,7 +7,7 @@
 #define MEMORY 192
 #define CODE 128 /* bytes; those behind them are data */
 
-#define MOST_CONTENDERS 3
+#define MOST_CONTENDERS 4
 #define NOT_COUNTED 0xFFFFFFFFu
 
 /* What a round leaves. */

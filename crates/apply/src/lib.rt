@@ -168,11 +168,12 @@ fn store_linked(
 }
 
 // The last access is kept in two words, which only the arms of accesses write: that keeps the loop of a run quick.
-fn touch(last: &mut [u32; 2], address: u32, code: u32)
-    ensures { λ _. ⌜ now (last .exit) ≡ set (set (now (last .entry)) 0 address) 1 code ⌝ }
+fn touch(last: &mut [u32; 2], address: u32, code: u32, c: Special) -> Special
+    ensures { λ d. ⌜ (now (last .exit) ≡ set (set (now (last .entry)) 0 address) 1 code) × (d ≡ c) ⌝ }
 {
     last[0] = address;
     last[1] = code;
+    c
 }
 
 pub fn apply(
@@ -193,36 +194,26 @@ pub fn apply(
         Effect::Jump(target) => jump(c, target),
         Effect::Link(r, v, target) => link(registers, r, v, target, c),
         Effect::LoadByte(r, a, signed) => {
-            touch(last, a, 2);
-            write(registers, r, byte(memory, a, signed), c)
+            let d = touch(last, a, 2, c);
+            write(registers, r, byte(memory, a, signed), d)
         }
         Effect::LoadHalf(r, a, signed) => {
-            touch(last, a, 4);
-            write(registers, r, half(memory, a, signed), c)
+            let d = touch(last, a, 4, c);
+            write(registers, r, half(memory, a, signed), d)
         }
         Effect::LoadWord(r, a) => {
-            touch(last, a, 8);
-            write(registers, r, word_at(memory, a), c)
+            let d = touch(last, a, 8, c);
+            write(registers, r, word_at(memory, a), d)
         }
         Effect::LoadLinked(r, a) => {
-            touch(last, a, 8);
-            linked(write(registers, r, word_at(memory, a), c), true)
+            let d = touch(last, a, 8, c);
+            linked(write(registers, r, word_at(memory, a), d), true)
         }
-        Effect::StoreByte(a, v) => {
-            touch(last, a, 3);
-            store_byte(memory, a, v, c)
-        }
-        Effect::StoreHalf(a, v) => {
-            touch(last, a, 5);
-            store_half(memory, a, v, c)
-        }
-        Effect::StoreWord(a, v) => {
-            touch(last, a, 9);
-            store_word(memory, a, v, c)
-        }
+        Effect::StoreByte(a, v) => store_byte(memory, a, v, touch(last, a, 3, c)),
+        Effect::StoreHalf(a, v) => store_half(memory, a, v, touch(last, a, 5, c)),
+        Effect::StoreWord(a, v) => store_word(memory, a, v, touch(last, a, 9, c)),
         Effect::StoreLinked(r, a, v) => {
-            touch(last, a, 9);
-            store_linked(registers, memory, r, a, v, c)
+            store_linked(registers, memory, r, a, v, touch(last, a, 9, c))
         }
         Effect::Control(r, v) => controlled(advance(c), r, v),
         Effect::Return(status) => linked(with_status(advance(c), status), false),

@@ -16,7 +16,7 @@ use Rattle.effect.specs.declared.effect.Touched.{Touched}
 use Rattle.effect.specs.declared.effect.Touched.the-variants.{Nothing}
 use Rattle.effect.specs.Touched.{cell, cellOf}
 use Rattle.effect.proofs.Touched.{held-cell}
-use Rattle.machine.specs.Step.{Outcome, stepped, outcome, stepOf}
+use Rattle.machine.specs.Step.{Outcome, stepped, Gives, outcome, stepOf}
 use Rattle.machine.specs.Run.{course, Reaches, runOf}
 use Rattle.machine.specs.Resume.{resumeOf}
 use Rattle.machine.proofs.Steps.{step-refused, exit-leaves}
@@ -109,6 +109,10 @@ module _ (b m : List ℕ) (r : Decoded) (given : r ≡ readStateOf b (length m))
     lent : r .state ≡ stateOf b
     lent = ap (λ x. x .state) given ∙ decoded-state b whole
 
+    pub machine-serves : refusalOf (r .state) (length m) ≡ 0
+    unfolding callRefusal
+    machine-serves = let h = served in rw lent (rw whole at h)
+
     -- the state is not written where the machine leaves it
     pub call-left : Bytes b → (f : State → Outcome) → ((s : State) → Leaving s m (f s)) → (k : ℕ) (t : State) → outcome k t m ≡ f (r .state) → (k ≡ 0 → ⊥) → answer k b m ≡ callOf b m (f (stateOf b))
     unfolding callOf
@@ -125,6 +129,10 @@ module _ (b m : List ℕ) (r : Decoded) (given : r ≡ readStateOf b (length m))
       pub call-done : (f : State → Outcome) (o : ℕ) (c : Touched) (y : List ℕ) → stepped o c t y ≡ f (r .state) → stepAnswer o (cellOf c) x y ≡ callOf b m (f (stateOf b))
       unfolding callOf
       call-done f o c y h = rw (served, bytes) (ap answered h ∙ rw lent)
+
+      pub step-call-done : (o a c : ℕ) (y : List ℕ) → Gives o a c t y (stepOf (r .state) m) → stepAnswer o (cell a (c / 2) (c % 2)) x y ≡ stepCall b m
+      step-call-done o a c y (h, k) =
+          rw (held-cell a c (stepOf (r .state) m .touched) k) (call-done (λ s. stepOf s m) o (stepOf (r .state) m .touched) y h)
 
       pub run-call-done : (o n a c : ℕ) (y : List ℕ) (budget : ℕ) → Reaches o n a c t y (runOf (r .state) m budget) → runAnswer o n (cell a (c / 2) (c % 2)) x y ≡ runCall b m budget
       unfolding runCall

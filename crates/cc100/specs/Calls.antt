@@ -6,8 +6,7 @@ use lib.Dec.{eqb, ltb}
 use lib.ListN.{length}
 use Rattle.word.specs.Bytes.{longest}
 use Rattle.effect.specs.declared.effect.Touched.the-variants.{Nothing}
-use Rattle.effect.specs.declared.effect.Cell.{Cell}
-use Rattle.effect.specs.Touched.{cellOf}
+use Rattle.effect.specs.Touched.{Cell, cellOf}
 use Rattle.machine.specs.State.{refusalOf}
 use Rattle.machine.specs.Step.{Outcome, stepOf}
 use Rattle.machine.specs.Run.{Course, runOf}

@@ -1,10 +1,7 @@
-// What step, run and resume on a state as bytes share: the refusals that they try first, and an access in numbers.
+// What step, run and resume on a state as bytes share: the refusals that they try first.
 ghost use mathlib.Core.Path.{_≡_};
-ghost use Rattle.effect.specs.Touched.{cellOf};
 ghost use Rattle.cc100.specs.Calls.{readStateOf};
 use codec::decode::Decoded;
-use effect::effect::Cell;
-use effect::effect::Touched;
 
 // The refusal that is due, memory's before the state's, or 0 and the state that the bytes stand for.
 pub fn read_state(bytes: &[u8], length: usize) -> Decoded
@@ -25,26 +22,4 @@ pub fn read_state(bytes: &[u8], length: usize) -> Decoded
         };
     }
     d
-}
-
-pub fn cell(t: Touched) -> Cell
-    ensures { λ r. ⌜ r ≡ cellOf t ⌝ }
-{
-    match t {
-        Touched::Nothing => Cell {
-            address: 0,
-            width: 0,
-            store: 0,
-        },
-        Touched::Load(address, width) => Cell {
-            address,
-            width,
-            store: 0,
-        },
-        Touched::Store(address, width) => Cell {
-            address,
-            width,
-            store: 1,
-        },
-    }
 }

@@ -26,15 +26,13 @@ pub extern "C" fn cc100_step(state: &mut [u8], memory: &mut [u8]) -> SteppedAnsw
         };
     }
     let s = read.state;
-    let r = s.step(memory);
+    let r = s.step_words(memory);
     let after = r.state;
     codec::encode::encode(after, state);
-    let touched = r.touched;
-    let c = cc100::cell(touched);
     SteppedAnswer {
         number: r.number,
-        address: c.address,
-        width: c.width,
-        store: c.store,
+        address: r.address,
+        width: r.code / 2,
+        store: r.code % 2,
     }
 }

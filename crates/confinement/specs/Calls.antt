@@ -4,8 +4,7 @@ use mathlib.Core.Bool.{Bool}
 use mathlib.Core.List.{List}
 use lib.ListN.{set}
 use Rattle.word.specs.Bytes.{storeOf}
-use Rattle.effect.specs.declared.effect.Cell.{Cell}
-use Rattle.effect.specs.Touched.{cellOf}
+use Rattle.effect.specs.Touched.{Cell, cellOf}
 use Rattle.machine.specs.declared.state.State.{State}
 use Rattle.machine.specs.State.{specialOf, joinOf, refusalOf, Typed, Bytes}
 use Rattle.apply.specs.Apply.{pairOf}

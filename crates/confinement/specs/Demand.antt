@@ -5,13 +5,13 @@ use mathlib.Core.Bool.{true, false}
 use mathlib.Core.Logic.{_⊎_}
 use mathlib.Core.List.{List, map}
 use lib.ListN.{length, getD, take, drop}
+use Rattle.effect.specs.Touched.{Cell}
 use Rattle.layout.specs.declared.Layout.{Layout}
 use Rattle.checker.specs.Check.{accepted, checkOf, codeOf}
 use Rattle.rules.specs.Not.{Not}
 use Rattle.checker.specs.Refusal.{All}
 use Rattle.effect.specs.Exit.{integerOverflow, systemCall, breakpoint, trap}
 use Rattle.system.specs.System.{isUser}
-use Rattle.effect.specs.declared.effect.Cell.{Cell}
 use Rattle.machine.specs.State.{registerOf, Bytes}
 use Rattle.machine.specs.Apply.{Machine, Span, span}
 use Rattle.machine.specs.Step.{accessAt, stepOf}

@@ -9,7 +9,6 @@ use Rattle.effect.specs.declared.effect.Effect.{Effect}
 use Rattle.effect.specs.declared.effect.Effect.the-variants.{Exit, Advance, Write, Pair, Jump, Link, LoadByte, LoadHalf, LoadWord, LoadLinked, StoreByte, StoreHalf, StoreWord, StoreLinked, Control, Return}
 use Rattle.effect.specs.declared.effect.Touched.{Touched}
 use Rattle.effect.specs.declared.effect.Touched.the-variants.{Nothing, Load, Store}
-use Rattle.effect.specs.declared.effect.Cell.{Cell}
 
 -- an SC that does not store is a plain write, and an exit completes nothing
 abbrev pub touchedOf : Effect → Touched
@@ -35,6 +34,12 @@ abbrev pub lastOf : Touched → Touched → Touched
 lastOf before Nothing = before
 lastOf before (Load a w) = Load a w
 lastOf before (Store a w) = Store a w
+
+-- an access in numbers, as C gets it: width 0 where there is no access; store 1 for a store, 0 for a load
+pub record Cell : Type 0 where
+  pub address : ℕ
+  pub width : ℕ
+  pub store : ℕ
 
 abbrev pub cell : ℕ → ℕ → ℕ → Cell
 cell a w d = record { address = a; width = w; store = d }

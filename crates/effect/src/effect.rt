@@ -52,10 +52,3 @@ pub enum Touched {
     Load(u32, u32),
     Store(u32, u32),
 }
-
-// The same in numbers, as C gets it: width 0 where there is no access; store 1 for a store, 0 for a load.
-pub struct Cell {
-    pub address: u32,
-    pub width: u32,
-    pub store: u32,
-}

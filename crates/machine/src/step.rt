@@ -4,7 +4,7 @@ ghost use mathlib.Core.Bool.{true};
 ghost use Prim.Native.Nat.{_<_, _^_};
 ghost use lib.ListN.{length};
 ghost use Rattle.effect.specs.Sound.{Performable};
-ghost use Rattle.machine.specs.State.{registerOf, joinOf, isLawful};
+ghost use Rattle.machine.specs.State.{registerOf, joinOf, isLawful, refusalOf};
 ghost use Rattle.machine.specs.Apply.{applyOf};
 ghost use Rattle.machine.specs.Step as Spec;
 use crate::state::State;
@@ -17,6 +17,14 @@ use isa::reading::Reading;
 pub struct Stepped {
     pub number: u32,
     pub touched: Touched,
+    pub state: State,
+}
+
+// The same with that access in two words, as `apply` keeps it.
+pub struct SteppedWords {
+    pub number: u32,
+    pub address: u32,
+    pub code: u32,
     pub state: State,
 }
 
@@ -82,6 +90,24 @@ pub(crate) fn exit_of(e: Effect) -> u32
 }
 
 impl State {
+    // A step that nothing refuses.
+    pub fn step_words(self, memory: &mut [u8]) -> SteppedWords
+        requires { ⌜ refusalOf self (length (now memory)) ≡ 0 ⌝ }
+        ensures { λ r. ⌜ Spec.Gives (r .number) (r .address) (r .code) (r .state) (now (memory .exit)) (Spec.stepOf self (now (memory .entry))) ⌝ }
+    {
+        let mut registers = self.registers;
+        let special = self.special();
+        let e = effect_at(special, &registers, memory);
+        let mut last: [u32; 2] = [0; 2];
+        let after = apply::apply(e, special, &mut registers, memory, &mut last);
+        SteppedWords {
+            number: exit_of(e),
+            address: last[0],
+            code: last[1],
+            state: crate::state::join(registers, after),
+        }
+    }
+
     pub fn step(self, memory: &mut [u8]) -> Stepped
         ensures { λ r. ⌜ Spec.stepped (r .number) (r .touched) (r .state) (now (memory .exit)) ≡ Spec.stepOf self (now (memory .entry)) ⌝ }
     {
@@ -93,15 +119,12 @@ impl State {
                 state: self,
             };
         }
-        let mut registers = self.registers;
-        let special = self.special();
-        let e = effect_at(special, &registers, memory);
-        let mut last: [u32; 2] = [0; 2];
-        let after = apply::apply(e, special, &mut registers, memory, &mut last);
+        let r = self.step_words(memory);
+        let state = r.state;
         Stepped {
-            number: exit_of(e),
-            touched: apply::touched(last[0], last[1]),
-            state: crate::state::join(registers, after),
+            number: r.number,
+            touched: apply::touched(r.address, r.code),
+            state,
         }
     }
 }
