@@ -27,6 +27,7 @@ EXPORTED = check check_placed run step resume read write
 CALLS = cc100_instruction cc100_step cc100_run cc100_resume cc100_check cc100_check_placed
 PAGE = 4096
 PLAIN = bench/plain_read.c bench/plain_step.c bench/plain_check.c
+TIMED = bench/timing.c $(PLAIN)
 # The benchmark of runs has one column more where Unicorn is installed (Debian's libunicorn-dev).
 UNICORN = $(shell pkg-config --exists unicorn 2> /dev/null && echo -DUNICORN bench/unicorn.c -lunicorn)
 # Another archive's calls, by names of their own.
@@ -151,9 +152,9 @@ harness: $(ARCHIVE)
 bench: $(ARCHIVE)
 	@mkdir -p target/bench
 	@[ -z "$(BEFORE)" ] || objcopy $(foreach c,$(EXPORTED),--redefine-sym cc100_$c=before_$c) $(BEFORE) target/bench/before.a
-	@$(CC) $(CFLAGS) -o target/bench/read bench/read.c $(PLAIN) $(ARCHIVE) $(OTHER)
-	@$(CC) $(CFLAGS) -o target/bench/run bench/run.c $(PLAIN) $(ARCHIVE) $(OTHER) $(UNICORN)
-	@$(CC) $(CFLAGS) -o target/bench/check bench/check.c $(PLAIN) $(ARCHIVE) $(OTHER)
+	@$(CC) $(CFLAGS) -o target/bench/read bench/read.c $(TIMED) $(ARCHIVE) $(OTHER)
+	@$(CC) $(CFLAGS) -o target/bench/run bench/run.c $(TIMED) $(ARCHIVE) $(OTHER) $(UNICORN)
+	@$(CC) $(CFLAGS) -o target/bench/check bench/check.c $(TIMED) $(ARCHIVE) $(OTHER)
 	@target/bench/read
 	@target/bench/run
 	@target/bench/check

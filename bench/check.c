@@ -2,11 +2,10 @@
    medians of interleaved rounds on the same bytes. */
 #include <stdint.h>
 #include <stdio.h>
-#include <stdlib.h>
-#include <time.h>
 
 #include "before.h"
 #include "plain.h"
+#include "timing.h"
 
 #define ROUNDS 41
 #define LARGEST 65536u
@@ -133,13 +132,6 @@ static void make_modules(void)
         cc100_set_word(small + i, loop[i / 4]);
 }
 
-static double now(void)
-{
-    struct timespec t;
-    clock_gettime(CLOCK_MONOTONIC, &t);
-    return (double)t.tv_sec + (double)t.tv_nsec * 1e-9;
-}
-
 /* Checks the module often enough for WORK bytes. What is not accepted counts as wrong. */
 static double timed(checker *check, const uint8_t *module, uint32_t length, uint32_t *wrong)
 {
@@ -151,29 +143,18 @@ static double timed(checker *check, const uint8_t *module, uint32_t length, uint
     return now() - from;
 }
 
-static int ascending(const void *a, const void *b)
-{
-    double x = *(const double *)a, y = *(const double *)b;
-    return (x > y) - (x < y);
-}
-
 /* Speeds are in a million of `unit` bytes. */
 static int compare(const char *name, const uint8_t *module, uint32_t length, const char *unit_name, uint32_t unit)
 {
     double seconds[CONTENDERS][ROUNDS];
+    struct timing timings[CONTENDERS];
     uint32_t wrong = 0;
     for (size_t turn = 0; turn < ROUNDS * CONTENDERS; turn++)
         seconds[turn % CONTENDERS][turn / CONTENDERS] = timed(contenders[turn % CONTENDERS].check, module, length, &wrong);
+    for (size_t i = 0; i < CONTENDERS; i++)
+        timings[i] = (struct timing){contenders[i].name, median(seconds[i], ROUNDS)};
     printf("check, %-25s", name);
-    for (size_t i = 0; i < CONTENDERS; i++) {
-        qsort(seconds[i], ROUNDS, sizeof(double), ascending);
-        printf("%s %s %6.1f", i == 0 ? "" : ",", contenders[i].name, WORK / unit / 1e6 / seconds[i][ROUNDS / 2]);
-    }
-    printf(" %s, time ratio to", unit_name);
-    for (size_t i = 1; i < CONTENDERS; i++)
-        printf("%s %s %.2f", i == 1 ? "" : ",", contenders[i].name, seconds[0][ROUNDS / 2] / seconds[i][ROUNDS / 2]);
-    printf("%s\n", wrong ? "  DIFFERENT ANSWERS" : "");
-    return wrong != 0;
+    return report(timings, CONTENDERS, WORK / unit / 1e6, unit_name, wrong != 0);
 }
 
 int main(void)

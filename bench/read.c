@@ -1,11 +1,10 @@
 /* Words read per second by cc100_read, by the same in plain C and by another archive (BEFORE): medians of interleaved passes over the same words. */
 #include <stdint.h>
 #include <stdio.h>
-#include <stdlib.h>
-#include <time.h>
 
 #include "before.h"
 #include "plain.h"
+#include "timing.h"
 
 #define WORDS 65536
 #define PASSES 8
@@ -43,13 +42,6 @@ static const uint32_t loop[] = {
 };
 #define LOOP (sizeof loop / sizeof loop[0])
 
-static double now(void)
-{
-    struct timespec t;
-    clock_gettime(CLOCK_MONOTONIC, &t);
-    return (double)t.tv_sec + (double)t.tv_nsec * 1e-9;
-}
-
 static uint64_t pass(reader *read)
 {
     uint64_t sum = 0;
@@ -68,32 +60,22 @@ static double timed(reader *read, uint64_t *sum)
     return now() - from;
 }
 
-static int ascending(const void *a, const void *b)
-{
-    double x = *(const double *)a, y = *(const double *)b;
-    return (x > y) - (x < y);
-}
-
 static int compare(const char *name)
 {
     double seconds[CONTENDERS][ROUNDS];
+    struct timing timings[CONTENDERS];
     uint64_t sums[CONTENDERS] = {0};
     int wrong = 0;
     for (size_t turn = 0; turn < ROUNDS * CONTENDERS; turn++) {
         size_t i = turn % CONTENDERS;
         seconds[i][turn / CONTENDERS] = timed(contenders[i].read, &sums[i]);
     }
-    printf("%-28s", name);
     for (size_t i = 0; i < CONTENDERS; i++) {
-        qsort(seconds[i], ROUNDS, sizeof(double), ascending);
-        printf("%s %s %6.1f", i == 0 ? "" : ",", contenders[i].name, PASSES * WORDS / seconds[i][ROUNDS / 2] / 1e6);
+        timings[i] = (struct timing){contenders[i].name, median(seconds[i], ROUNDS)};
         wrong |= sums[i] != sums[0];
     }
-    printf(" million words/s, time ratio to");
-    for (size_t i = 1; i < CONTENDERS; i++)
-        printf("%s %s %.2f", i == 1 ? "" : ",", contenders[i].name, seconds[0][ROUNDS / 2] / seconds[i][ROUNDS / 2]);
-    printf("%s\n", wrong ? "  DIFFERENT ANSWERS" : "");
-    return wrong;
+    printf("%-28s", name);
+    return report(timings, CONTENDERS, PASSES * WORDS / 1e6, "million words/s", wrong);
 }
 
 int main(void)

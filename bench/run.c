@@ -6,7 +6,6 @@
 #include <stdio.h>
 #include <stdlib.h>
 #include <string.h>
-#include <time.h>
 
 #include "before.h"
 #include "run.h"
@@ -92,12 +91,6 @@ static const struct loop loops[] = {
         0x24420007, /* 60: ADDIU 2,2,7 */
     }},
 };
-double now(void)
-{
-    struct timespec t;
-    clock_gettime(CLOCK_MONOTONIC, &t);
-    return (double)t.tv_sec + (double)t.tv_nsec * 1e-9;
-}
 
 typedef cc100_ran runner(uint8_t *, size_t, uint8_t *, size_t, uint32_t);
 typedef cc100_stepped stepper(uint8_t *, size_t, uint8_t *, size_t);
@@ -188,12 +181,6 @@ static double timed(worker *work, const struct loop *loop, size_t round, struct 
     return seconds;
 }
 
-static int ascending(const void *a, const void *b)
-{
-    double x = *(const double *)a, y = *(const double *)b;
-    return (x > y) - (x < y);
-}
-
 /* Whether a worker left something else than the first one, or what no loop leaves: Unicorn does not count its steps. */
 static int differs(const struct answer *first, const struct answer *a)
 {
@@ -204,6 +191,7 @@ static int differs(const struct answer *first, const struct answer *a)
 static int compare(const char *what, const struct loop *loop, const struct contender *contenders, size_t count)
 {
     double seconds[MOST_CONTENDERS][ROUNDS];
+    struct timing timings[MOST_CONTENDERS];
     struct answer answers[MOST_CONTENDERS];
     int wrong = 0;
     for (size_t turn = 0; turn < ROUNDS * count; turn++) {
@@ -211,16 +199,10 @@ static int compare(const char *what, const struct loop *loop, const struct conte
         seconds[i][round] = timed(contenders[i].work, loop, round, &answers[i]);
         wrong |= differs(&answers[0], &answers[i]);
     }
+    for (size_t i = 0; i < count; i++)
+        timings[i] = (struct timing){contenders[i].name, median(seconds[i], ROUNDS)};
     printf("%s, %-25s", what, loop->name);
-    for (size_t i = 0; i < count; i++)
-        qsort(seconds[i], ROUNDS, sizeof(double), ascending);
-    for (size_t i = 0; i < count; i++)
-        printf("%s %6.1f, ", contenders[i].name, answers[0].steps / seconds[i][ROUNDS / 2] / 1e6);
-    printf("million steps/s, time ratio to");
-    for (size_t i = 1; i < count; i++)
-        printf("%s %s %.2f", i == 1 ? "" : ",", contenders[i].name, seconds[0][ROUNDS / 2] / seconds[i][ROUNDS / 2]);
-    printf("%s\n", wrong ? "  DIFFERENT ANSWERS" : "");
-    return wrong;
+    return report(timings, count, answers[0].steps / 1e6, "million steps/s", wrong);
 }
 
 #define COUNT(array) (sizeof array / sizeof array[0])

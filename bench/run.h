@@ -3,6 +3,7 @@
 #define RUN_H
 
 #include "plain.h"
+#include "timing.h"
 
 #define MEMORY 192
 #define CODE 128 /* bytes; those behind them are data */
@@ -25,7 +26,6 @@ struct contender {
     worker *work;
 };
 
-double now(void);
 double run_unicorn(uint8_t *room, uint8_t *memory, struct answer *a); /* where it is installed */
 
 #endif

@@ -14,10 +14,10 @@ use Rattle.word.specs.Bytes.{longest}
 use Rattle.machine.specs.State.{refusalOf, Bytes}
 use Rattle.effect.specs.declared.effect.Touched.{Touched}
 use Rattle.effect.specs.declared.effect.Touched.the-variants.{Nothing}
-use Rattle.effect.specs.Touched.{cell, cellOf}
+use Rattle.effect.specs.Touched.{cell, cellOf, InWords}
 use Rattle.effect.proofs.Touched.{held-cell}
-use Rattle.machine.specs.Step.{Outcome, stepped, Gives, outcome, stepOf}
-use Rattle.machine.specs.Run.{course, Reaches, runOf}
+use Rattle.machine.specs.Step.{Outcome, stepped, outcome, stepOf}
+use Rattle.machine.specs.Run.{course, runOf}
 use Rattle.machine.specs.Resume.{resumeOf}
 use Rattle.machine.proofs.Steps.{step-refused, exit-leaves}
 use Rattle.machine.proofs.Touches.{touched-exits}
@@ -130,14 +130,12 @@ module _ (b m : List ℕ) (r : Decoded) (given : r ≡ readStateOf b (length m))
       unfolding callOf
       call-done f o c y h = rw (served, bytes) (ap answered h ∙ rw lent)
 
-      pub step-call-done : (o a c : ℕ) (y : List ℕ) → Gives o a c t y (stepOf (r .state) m) → stepAnswer o (cell a (c / 2) (c % 2)) x y ≡ stepCall b m
-      step-call-done o a c y (h, k) =
-          rw (held-cell a c (stepOf (r .state) m .touched) k) (call-done (λ s. stepOf s m) o (stepOf (r .state) m .touched) y h)
+      pub step-call-done : (o a c : ℕ) (y : List ℕ) → InWords (λ u. stepped o u t y) a c (stepOf (r .state) m) → stepAnswer o (cell a (c / 2) (c % 2)) x y ≡ stepCall b m
+      step-call-done o a c y (u, (h, k)) = rw (held-cell a c u k) (call-done (λ s. stepOf s m) o u y h)
 
-      pub run-call-done : (o n a c : ℕ) (y : List ℕ) (budget : ℕ) → Reaches o n a c t y (runOf (r .state) m budget) → runAnswer o n (cell a (c / 2) (c % 2)) x y ≡ runCall b m budget
+      pub run-call-done : (o n a c : ℕ) (y : List ℕ) (budget : ℕ) → InWords (λ u. course o n u t y) a c (runOf (r .state) m budget) → runAnswer o n (cell a (c / 2) (c % 2)) x y ≡ runCall b m budget
       unfolding runCall
-      run-call-done o n a c y budget (h, k) =
-          rw (held-cell a c (runOf (r .state) m budget .touched) k, served, bytes) (ap runAnswered h ∙ rw lent)
+      run-call-done o n a c y budget (u, (h, k)) = rw (held-cell a c u k, served, bytes) (ap runAnswered h ∙ rw lent)
 
 -- ---- the calls do what the machine does, refused or not
 

@@ -1,15 +1,14 @@
 -- The last of accesses in turn, and an access held in two words.
 use Prim.Native.Nat.{ℕ, _+_, _*_, _/_, _%_}
-use mathlib.Core.Path.{_≡_, refl}
+use mathlib.Core.Path.{_≡_, refl, sym, ap, subst, _∙_}
 use mathlib.Core.Logic.{⊎-elim, _⊎_, inl, inr}
 use native.Mathlib.Omega.{arith}
-use lib.Dec.{eqb}
 use borrow.Author.Tests.{eq-eqb, ne-eqb}
 use Rattle.effect.specs.declared.effect.Effect.{Effect}
 use Rattle.effect.specs.declared.effect.Effect.the-variants.{Exit, Advance, Write, Pair, Jump, Link, LoadByte, LoadHalf, LoadWord, LoadLinked, StoreByte, StoreHalf, StoreWord, StoreLinked, Control, Return}
 use Rattle.effect.specs.declared.effect.Touched.{Touched}
 use Rattle.effect.specs.declared.effect.Touched.the-variants.{Nothing, Load, Store}
-use Rattle.effect.specs.Touched.{touchedOf, lastOf, cell, cellOf, Held, touchedIn}
+use Rattle.effect.specs.Touched.{touchedOf, lastOf, cell, cellOf, Held, InWords, touchedIn}
 
 -- none before
 pub last-first : (t : Touched) → lastOf Nothing t ≡ t
@@ -78,6 +77,10 @@ held-is a c (Store b w) p (x, y) =
     let e : c ≡ 2 * w + 1 = y in
     let d : c / 2 ≡ w = omega (arith, e) in
     rw (ne-eqb c 0 (λ z. omega (arith, e, z)), ne-eqb (c % 2) 0 (λ z. omega (arith, e, z)), d, x)
+
+-- x from the words again, where its access is known to have a width
+pub held-as : {A : Type 0} (f : Touched → A) (touched : A → Touched) → ((t : Touched) → touched (f t) ≡ t) → (a c : ℕ) (x : A) → InWords f a c x → Wide (touched x) → f (touchedIn a c) ≡ x
+held-as f touched same a c x (t, (e, h)) w = ap f (held-is a c t (subst Wide (ap touched (sym e) ∙ same t) w) h) ∙ e
 
 -- and one cell
 pub held-cell : (a c : ℕ) (t : Touched) → Held a c t → cell a (c / 2) (c % 2) ≡ cellOf t

@@ -57,6 +57,10 @@ codeOf c = 2 * c .width + c .store
 abbrev pub Held : ℕ → ℕ → Touched → Type 0
 Held a c t = (a ≡ cellOf t .address) × (c ≡ codeOf (cellOf t))
 
+-- x is what f makes of the access that two words hold
+abbrev pub InWords : {A : Type 0} → (Touched → A) → ℕ → ℕ → A → Type 0
+InWords f a c x = (t : Touched) × ((f t ≡ x) × Held a c t)
+
 abbrev pub Keeps : List ℕ → Touched → Type 0
 Keeps l t = (length l ≡ 2) × Held (getD l 0 0) (getD l 1 0) t
 

@@ -1,6 +1,6 @@
 -- The theorems about a run: what its budget, its exit and its total mean, and what it keeps.
 use Prim.Native.Nat.{ℕ, zero, suc, _+_, _-_, _≤_, _<_}
-use mathlib.Core.Path.{_≡_, refl, sym, ap, subst, _∙_}
+use mathlib.Core.Path.{_≡_, refl, sym, ap, _∙_}
 use mathlib.Core.Bool.{Bool, true, false, cond}
 use mathlib.Core.List.{List}
 use mathlib.Core.Logic.{_⊎_, inl, inr}
@@ -13,14 +13,14 @@ use Rattle.effect.specs.declared.effect.Special.{Special}
 use Rattle.effect.specs.declared.effect.Effect.{Effect}
 use Rattle.effect.specs.declared.effect.Touched.{Touched}
 use Rattle.effect.specs.declared.effect.Touched.the-variants.{Nothing}
-use Rattle.effect.specs.Touched.{touchedOf, lastOf, Held, touchedIn}
-use Rattle.effect.proofs.Touched.{last-first, last-joined, last-some, last-none, Wide, last-wide, held-is}
+use Rattle.effect.specs.Touched.{touchedOf, lastOf}
+use Rattle.effect.proofs.Touched.{last-first, last-joined, last-some, last-none, Wide, last-wide}
 use Rattle.machine.specs.declared.state.State.{State}
 use Rattle.machine.specs.State.{registerOf, specialOf, joinOf, isLawful, refusalOf, Typed, Bytes}
 use Rattle.apply.specs.Apply.{parts, appliedOf}
 use Rattle.machine.specs.Apply.{joined, applyOf}
 use Rattle.machine.specs.Step.{effectAt, exitOf, Outcome, stepped, outcome, stepOf}
-use Rattle.machine.specs.Run.{Course, course, Reaches, halted, later, repeatOf, runOf, thenOf, afterOf}
+use Rattle.machine.specs.Run.{Course, course, halted, later, repeatOf, runOf, thenOf, afterOf}
 use Rattle.machine.proofs.Steps.{step-refused, step-done, step-number, step-valid, step-lawful, step-typed, step-bytes, step-length, step-zero, step-wide, exit-leaves, not-refused, refused-alike, applied-exit, touched-exit}
 use Rattle.machine.proofs.Valid.{Valid, valid, valid-lawful}
 
@@ -66,14 +66,6 @@ turns-begin s m b = let z : b - 0 ≡ b = omega arith in rw z (later-zero (repea
 pub turns-done : (s : State) (m : List ℕ) (done b : ℕ) (t : Touched) → b ≤ done → course 0 done t s m ≡ later done t (repeatOf (b - done) s m)
 unfolding repeatOf
 turns-done s m done b t h = let z : b - done ≡ 0 = omega arith in rw z (halted-later done t (outcome 0 s m))
-
--- a run that is told with its last access in words
-pub reaches : (k n a c : ℕ) (t : Touched) (s : State) (m : List ℕ) (r : Course) → course k n t s m ≡ r → Held a c t → Reaches k n a c s m r
-reaches k n a c t s m r e h = subst (Reaches k n a c s m) e (refl, h)
-
--- and from the words again
-pub reached : (k n a c : ℕ) (s : State) (m : List ℕ) (r : Course) → Reaches k n a c s m r → Wide (r .touched) → (t : Touched) → t ≡ touchedIn a c → course k n t s m ≡ r
-reached k n a c s m r (e, h) w t q = rw (q, held-is a c (r .touched) w h) e
 
 repeat-wide : (n : ℕ) (s : State) (m : List ℕ) → Wide (repeatOf n s m .touched)
 unfolding repeatOf

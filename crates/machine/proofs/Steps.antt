@@ -1,6 +1,6 @@
 -- The theorems about a step: what it leaves where it exits or is refused, and what it keeps.
 use Prim.Native.Nat.{ℕ, _+_, _≤_, _<_}
-use mathlib.Core.Path.{_≡_, refl, sym, ap, subst, _∙_}
+use mathlib.Core.Path.{_≡_, refl, sym, ap, _∙_}
 use mathlib.Core.Bool.{Bool, true, false, cond, true≢false}
 use mathlib.Core.List.{List}
 use mathlib.Core.Logic.{⊎-elim, _⊎_, inl, inr}
@@ -21,8 +21,8 @@ use Rattle.effect.specs.declared.effect.Effect.{Effect}
 use Rattle.effect.specs.declared.effect.Effect.the-variants.{Exit, Advance, Write, Pair, Jump, Link, LoadByte, LoadHalf, LoadWord, LoadLinked, StoreByte, StoreHalf, StoreWord, StoreLinked, Control, Return}
 use Rattle.effect.specs.declared.effect.Touched.{Touched}
 use Rattle.effect.specs.declared.effect.Touched.the-variants.{Nothing, Load, Store}
-use Rattle.effect.specs.Touched.{touchedOf, Held, touchedIn}
-use Rattle.effect.proofs.Touched.{Wide, touched-wide, held-is}
+use Rattle.effect.specs.Touched.{touchedOf}
+use Rattle.effect.proofs.Touched.{Wide, touched-wide}
 use Rattle.effect.specs.Exit.{noInstruction, fetchOutside}
 use Rattle.decision.specs.Decision.{decisionOf}
 use Rattle.effect.specs.Sound.{Sound}
@@ -31,7 +31,7 @@ use Rattle.machine.specs.declared.state.State.{State}
 use Rattle.machine.specs.State.{registerOf, specialOf, joinOf, isLawful, refusalOf, Typed, Bytes}
 use Rattle.apply.specs.Apply.{Parts, parts, appliedOf}
 use Rattle.machine.specs.Apply.{Span, span, joined, applyOf, spanOf, storedIn, storedOf, Outside}
-use Rattle.machine.specs.Step.{effectOf, readEffect, effectAt, readAccess, accessAt, exitOf, Outcome, stepped, Gives, outcome, tryOf, stepOf}
+use Rattle.machine.specs.Step.{effectOf, readEffect, effectAt, readAccess, accessAt, exitOf, Outcome, stepped, outcome, tryOf, stepOf}
 use Rattle.machine.proofs.Valid.{Valid, valid, valid-lawful, typed, apply-valid, apply-zero}
 
 -- ---- the effect of a step is sound
@@ -134,14 +134,6 @@ module _ (s : State) (m : List ℕ) where
   unfolding stepOf tryOf
   step-done z c p e q l d x a k n y o t j =
       rw (n, o, j) (ap (tried e) a ∙ rw (z, ← q, p))
-
--- a step that is told with its access in words
-pub gives : (k a c : ℕ) (t : Touched) (s : State) (m : List ℕ) (o : Outcome) → stepped k t s m ≡ o → Held a c t → Gives k a c s m o
-gives k a c t s m o e h = subst (Gives k a c s m) e (refl, h)
-
--- and from the words again
-pub given : (k a c : ℕ) (s : State) (m : List ℕ) (o : Outcome) → Gives k a c s m o → Wide (o .touched) → (t : Touched) → t ≡ touchedIn a c → stepped k t s m ≡ o
-given k a c s m o (e, h) w t q = rw (q, held-is a c (o .touched) w h) e
 
 -- an exit and a refusal change no state and no memory
 pub exit-leaves : (s : State) (m : List ℕ) → (stepOf s m .number ≡ 0 → ⊥) → stepOf s m .machine ≡ record { state = s; memory = m }

@@ -1,25 +1,22 @@
 -- What a step touches, beside its instruction's access (document 02, Ticket 1): the whole of it where the step completes, and nothing where there is
 -- none, where an SC does not store, and where the step exits or is refused.
 use Prim.Native.Nat.{ℕ, _+_, _≤_}
-use mathlib.Core.Path.{_≡_, refl, sym, ap, _∙_}
-use mathlib.Core.Bool.{Bool, true, false, cond}
+use mathlib.Core.Path.{_≡_, refl, ap, _∙_}
+use mathlib.Core.Bool.{Bool, true, false}
 use mathlib.Core.List.{List}
-use mathlib.Core.Logic.{⊎-elim, _⊎_, inl, inr}
+use mathlib.Core.Logic.{⊎-elim}
 use native.Mathlib.Omega.{arith}
-use lib.Dec.{leb}
 use lib.ListN.{length}
 use borrow.Author.Tests.{le-leb}
 use Rattle.word.specs.Bytes.{loadOf}
 use Rattle.isa.specs.declared.kind.Access.{Access}
 use Rattle.isa.specs.declared.kind.Access.the-variants.{Lb, Lbu, Sb, Lh, Lhu, Sh, Lw, Sw, Ll, Sc}
-use Rattle.isa.specs.declared.kind.Kind.{Kind}
 use Rattle.isa.specs.declared.kind.Kind.the-variants as K
 use Rattle.isa.specs.declared.kind.Instruction.{Instruction}
 use Rattle.isa.specs.declared.reading.Reading.the-variants.{Legal}
 use Rattle.isa.specs.Reading.{readOf}
 use Rattle.class.specs.Class.{accessClass, classOf}
 use Rattle.effect.specs.declared.effect.Effect.{Effect}
-use Rattle.effect.specs.declared.effect.Effect.the-variants.{Exit, Advance, Write, Pair, Jump, Link, LoadByte, LoadHalf, LoadWord, LoadLinked, StoreByte, StoreHalf, StoreWord, StoreLinked, Control, Return}
 use Rattle.effect.specs.declared.effect.Touched.{Touched}
 use Rattle.effect.specs.declared.effect.Touched.the-variants.{Nothing, Load, Store}
 use Rattle.effect.specs.Touched.{touchedOf}
@@ -27,7 +24,7 @@ use Rattle.effect.proofs.Touched.{Wide, width-some}
 use Rattle.access.specs.Access.{addressOf, loadIf, storeIf, conditional, accessOf}
 use Rattle.decision.specs.Decision.{decisionOf}
 use Rattle.machine.specs.declared.state.State.{State}
-use Rattle.machine.specs.State.{registerOf, specialOf, Bytes}
+use Rattle.machine.specs.State.{registerOf, Bytes}
 use Rattle.machine.specs.Apply.{span, spanOf, directed}
 use Rattle.machine.specs.Step.{effectOf, effectAt, instructionAccess, accessAt, exitOf, tryOf, stepOf}
 use Rattle.machine.proofs.Valid.{Valid}

@@ -1,13 +1,12 @@
 -- A run: the step repeated until the budget is spent or a step does not complete (document 01, Machine).
 use Prim.Native.Nat.{ℕ, zero, suc, _+_}
-use mathlib.Core.Path.{_≡_}
 use mathlib.Core.Bool.{cond}
 use mathlib.Core.List.{List}
 use lib.Dec.{eqb}
 use lib.ListN.{length}
 use Rattle.effect.specs.declared.effect.Touched.{Touched}
 use Rattle.effect.specs.declared.effect.Touched.the-variants.{Nothing}
-use Rattle.effect.specs.Touched.{lastOf, Held}
+use Rattle.effect.specs.Touched.{lastOf}
 use Rattle.machine.specs.declared.state.State.{State}
 use Rattle.machine.specs.State.{refusalOf}
 use Rattle.machine.specs.Apply.{Machine}
@@ -23,10 +22,6 @@ pub record Course : Type 0 where
 
 abbrev pub course : ℕ → ℕ → Touched → State → List ℕ → Course
 course k n t s m = record { number = k; steps = n; touched = t; machine = record { state = s; memory = m } }
-
--- a run that is told in numbers: all but its access equals the run's, and two words hold that
-abbrev pub Reaches : ℕ → ℕ → ℕ → ℕ → State → List ℕ → Course → Type 0
-Reaches k n a c s m r = (course k n (r .touched) s m ≡ r) × Held a c (r .touched)
 
 -- no step completed
 abbrev pub halted : Outcome → Course

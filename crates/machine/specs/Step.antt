@@ -1,6 +1,5 @@
 -- One step, from the fetch to the state and memory that it leaves (document 01, Machine).
 use Prim.Native.Nat.{ℕ, _+_}
-use mathlib.Core.Path.{_≡_}
 use mathlib.Core.Bool.{cond}
 use mathlib.Core.List.{List}
 use lib.Dec.{eqb, leb}
@@ -14,8 +13,8 @@ use Rattle.class.specs.Class.{classOf}
 use Rattle.effect.specs.declared.effect.Effect.{Effect}
 use Rattle.effect.specs.declared.effect.Effect.the-variants.{Exit, Advance, Write, Pair, Jump, Link, LoadByte, LoadHalf, LoadWord, LoadLinked, StoreByte, StoreHalf, StoreWord, StoreLinked, Control, Return}
 use Rattle.effect.specs.declared.effect.Touched.{Touched}
-use Rattle.effect.specs.declared.effect.Touched.the-variants.{Nothing, Load, Store}
-use Rattle.effect.specs.Touched.{touchedOf, Held}
+use Rattle.effect.specs.declared.effect.Touched.the-variants.{Nothing}
+use Rattle.effect.specs.Touched.{touchedOf}
 use Rattle.effect.specs.Exit.{noInstruction, fetchOutside}
 use Rattle.access.specs.Access.{addressOf}
 use Rattle.decision.specs.Decision.{decisionOf}
@@ -75,10 +74,6 @@ pub record Outcome : Type 0 where
 
 abbrev pub stepped : ℕ → Touched → State → List ℕ → Outcome
 stepped k t s m = record { number = k; touched = t; machine = record { state = s; memory = m } }
-
--- a step that is told in numbers: all but its access equals the step's, and two words hold that
-abbrev pub Gives : ℕ → ℕ → ℕ → State → List ℕ → Outcome → Type 0
-Gives k a c s m o = (stepped k (o .touched) s m ≡ o) × Held a c (o .touched)
 
 -- a call that completes no step
 abbrev pub outcome : ℕ → State → List ℕ → Outcome

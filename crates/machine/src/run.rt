@@ -1,6 +1,7 @@
 // A run: steps repeated on a state that is taken apart once and joined again at the end.
 ghost use mathlib.Core.Path.{_≡_};
 ghost use lib.ListN.{length};
+ghost use Rattle.effect.specs.Touched.{InWords};
 ghost use Rattle.machine.specs.State.{joinOf, refusalOf};
 ghost use Rattle.machine.specs.Run as Spec;
 use crate::state::State;
@@ -35,7 +36,7 @@ struct Course {
 
 fn repeat(c: Special, registers: &mut [u32; 32], memory: &mut [u8], budget: u32) -> Course
     requires { ⌜ refusalOf (joinOf (now registers) c) (length (now memory)) ≡ 0 ⌝ }
-    ensures { λ r. ⌜ Spec.Reaches (r .number) (r .steps) (r .address) (r .code) (joinOf (now (registers .exit)) (r .special)) (now (memory .exit)) (Spec.repeatOf budget (joinOf (now (registers .entry)) c) (now (memory .entry))) ⌝ }
+    ensures { λ r. ⌜ InWords (λ t. Spec.course (r .number) (r .steps) t (joinOf (now (registers .exit)) (r .special)) (now (memory .exit))) (r .address) (r .code) (Spec.repeatOf budget (joinOf (now (registers .entry)) c) (now (memory .entry))) ⌝ }
 {
     let mut special = c;
     let mut steps: u32 = 0;
@@ -66,7 +67,7 @@ fn repeat(c: Special, registers: &mut [u32; 32], memory: &mut [u8], budget: u32)
 
 impl State {
     pub fn run_words(self, memory: &mut [u8], budget: u32) -> RanWords
-        ensures { λ r. ⌜ Spec.Reaches (r .number) (r .steps) (r .address) (r .code) (r .state) (now (memory .exit)) (Spec.runOf self (now (memory .entry)) budget) ⌝ }
+        ensures { λ r. ⌜ InWords (λ t. Spec.course (r .number) (r .steps) t (r .state) (now (memory .exit))) (r .address) (r .code) (Spec.runOf self (now (memory .entry)) budget) ⌝ }
     {
         let refused = self.refusal(memory.len());
         if refused != 0 {

@@ -4,6 +4,7 @@ ghost use mathlib.Core.Bool.{true};
 ghost use Prim.Native.Nat.{_<_, _^_};
 ghost use lib.ListN.{length};
 ghost use Rattle.effect.specs.Sound.{Performable};
+ghost use Rattle.effect.specs.Touched.{InWords};
 ghost use Rattle.machine.specs.State.{registerOf, joinOf, isLawful, refusalOf};
 ghost use Rattle.machine.specs.Apply.{applyOf};
 ghost use Rattle.machine.specs.Step as Spec;
@@ -93,7 +94,7 @@ impl State {
     // A step that nothing refuses.
     pub fn step_words(self, memory: &mut [u8]) -> SteppedWords
         requires { ⌜ refusalOf self (length (now memory)) ≡ 0 ⌝ }
-        ensures { λ r. ⌜ Spec.Gives (r .number) (r .address) (r .code) (r .state) (now (memory .exit)) (Spec.stepOf self (now (memory .entry))) ⌝ }
+        ensures { λ r. ⌜ InWords (λ t. Spec.stepped (r .number) t (r .state) (now (memory .exit))) (r .address) (r .code) (Spec.stepOf self (now (memory .entry))) ⌝ }
     {
         let mut registers = self.registers;
         let special = self.special();

@@ -8,7 +8,7 @@ use Rattle.effect.specs.Touched.{touchedOf, lastOf, Keeps}
 use Rattle.machine.specs.State.{joinOf, refusalOf}
 use Rattle.machine.specs.Run.{later, repeatOf}
 use Rattle.machine.proofs.Steps.{not-refused}
-use Rattle.machine.proofs.Runs.{turn-exits, turn-lawful, turn-completes, turns-begin, turns-done, reaches}
+use Rattle.machine.proofs.Runs.{turn-exits, turn-lawful, turn-completes, turns-begin, turns-done}
 use borrow.Author.Needs.{needs}
 use Rattle.machine.proofs.run.repeat.Statement.{statement}
 use Rattle.machine.proofs.run.repeat.Tie as tie
@@ -31,7 +31,7 @@ returns : tie.Need-returns Inv-loop μ-loop
 returns c =
     let loop = c .before .before .before .before .before .before .loop in
     let last = loop .inv .3 in
-    rw (c .before .exit-of .ensures) (reaches _ _ _ _ (last .0) _ _ _ (turn-exits (joinOf (loop .registers) (loop .special)) (loop .memory) (rw (loop .inv .1) (loop .inv .2)) _ (c .before .before .effect-at .ensures .0) (loop .steps) (c .before .before .before .before .before .before .before .before .args .budget) (omega arith) (last .0) (rw (c .before .exit-of .ensures) at (c .if1 .taken)) ∙ last .1 .1) (last .1 .0 .1))
+    rw (c .before .exit-of .ensures) (last .0, (turn-exits (joinOf (loop .registers) (loop .special)) (loop .memory) (rw (loop .inv .1) (loop .inv .2)) _ (c .before .before .effect-at .ensures .0) (loop .steps) (c .before .before .before .before .before .before .before .before .args .budget) (omega arith) (last .0) (rw (c .before .exit-of .ensures) at (c .if1 .taken)) ∙ last .1 .1, last .1 .0 .1))
 
 apply-requires : tie.Need-apply-requires Inv-loop μ-loop
 apply-requires c κs =
@@ -61,7 +61,7 @@ returns-2 : tie.Need-returns-2 Inv-loop μ-loop
 returns-2 c =
     let loop = c .before .loop in
     let last = loop .inv .3 in
-    reaches _ _ _ _ (last .0) _ _ _ (turns-done (joinOf (loop .registers) (loop .special)) (loop .memory) (loop .steps) (c .before .before .before .args .budget) (last .0) (omega arith) ∙ last .1 .1) (last .1 .0 .1)
+    (last .0, (turns-done (joinOf (loop .registers) (loop .special)) (loop .memory) (loop .steps) (c .before .before .before .args .budget) (last .0) (omega arith) ∙ last .1 .1, last .1 .0 .1))
 
 pub repeat-spec : {M : Type 1} → statement M
 repeat-spec =

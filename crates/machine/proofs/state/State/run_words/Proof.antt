@@ -1,7 +1,7 @@
 use mathlib.Core.Path.{refl, sym, _∙_}
 use denote.Ref.{now}
 use Rattle.effect.specs.declared.effect.Touched.the-variants.{Nothing}
-use Rattle.machine.proofs.Runs.{run-refused, run-repeats, reaches}
+use Rattle.machine.proofs.Runs.{run-refused, run-repeats}
 use borrow.Author.Needs.{needs}
 use Rattle.machine.proofs.state.State.«run_words».Statement.{statement}
 use Rattle.machine.proofs.state.State.«run_words».Tie as tie
@@ -9,7 +9,7 @@ use Rattle.machine.proofs.state.State.«run_words».Tie as tie
 returns : tie.Need-returns
 returns c =
     let a = c .before .before .before .args in
-    reaches _ _ 0 0 Nothing _ _ _ (run-refused (a .self) (now (a .memory)) (a .budget) _ (c .before .refusal .ensures) (c .if1 .taken)) (refl, refl)
+    (Nothing, (run-refused (a .self) (now (a .memory)) (a .budget) _ (c .before .refusal .ensures) (c .if1 .taken), (refl, refl)))
 
 repeat-requires : tie.Need-repeat-requires
 repeat-requires c κs = rw (c .before .before .special .ensures) (sym (c .before .before .before .before .before .refusal .ensures) ∙ c .before .before .before .before .if1 .left)

@@ -1,6 +1,8 @@
-use mathlib.Core.Path.{sym, _∙_}
+use mathlib.Core.Path.{refl, sym, _∙_}
 use denote.Ref.{now}
-use Rattle.machine.proofs.Steps.{step-refused, given, step-wide}
+use Rattle.effect.proofs.Touched.{held-as}
+use Rattle.machine.specs.Step.{stepped}
+use Rattle.machine.proofs.Steps.{step-refused, step-wide}
 use borrow.Author.Needs.{needs}
 use Rattle.machine.proofs.state.State.step.Statement.{statement}
 use Rattle.machine.proofs.state.State.step.Tie as tie
@@ -17,7 +19,7 @@ returns-2 : tie.Need-returns-2
 returns-2 c =
     let done = c .before .before .before .before in
     let a = done .before .before .before .before .before .args in
-    given _ _ _ _ _ _ (done .step-words .ensures) (step-wide (a .self) (now (a .memory))) _ (c .touched .ensures)
+    rw (c .touched .ensures) (held-as (λ t. stepped _ t _ _) (λ o. o .touched) (λ t. refl) _ _ _ (done .step-words .ensures) (step-wide (a .self) (now (a .memory))))
 
 pub step-spec : {M : Type 1} → statement M
 step-spec =

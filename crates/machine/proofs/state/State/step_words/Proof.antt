@@ -3,7 +3,7 @@ use denote.Ref.{now}
 use Rattle.effect.specs.declared.effect.Touched.the-variants.{Nothing}
 use Rattle.effect.specs.Touched.{touchedOf}
 use Rattle.effect.proofs.Touched.{last-first}
-use Rattle.machine.proofs.Steps.{step-done, gives, not-refused}
+use Rattle.machine.proofs.Steps.{step-done, not-refused}
 use borrow.Author.Needs.{needs}
 use Rattle.machine.proofs.state.State.«step_words».Statement.{statement}
 use Rattle.machine.proofs.state.State.«step_words».Tie as tie
@@ -22,12 +22,12 @@ returns c =
     let special = found .before .before .before in
     let start = special .before .before .before in
     let a = start .args in
+    let e = found .effect-at .result in
     let held = applied .apply .ensures .1 Nothing (refl, (refl, refl)) .1 in
-    gives _ _ _ _ _ _ _
-    (step-done (a .self) (now (a .memory)) (start .pre)
+    let done = step-done (a .self) (now (a .memory)) (start .pre)
     _ (special .special .ensures) _ (found .effect-at .ensures .0 ∙ rw (special .special .ensures))
-    _ _ _ (applied .apply .ensures .0) _ (c .before .exit-of .ensures) _ refl _ (c .join .ensures))
-    (rw (last-first (touchedOf (found .effect-at .result))) at held)
+    _ _ _ (applied .apply .ensures .0) _ (c .before .exit-of .ensures) _ refl _ (c .join .ensures) in
+    (touchedOf e, (done, rw (last-first (touchedOf e)) at held))
 
 pub step-words-spec : {M : Type 1} → statement M
 step-words-spec =
