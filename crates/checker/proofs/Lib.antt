@@ -1,3 +1,4 @@
+pub mod Trials
 pub mod Scan
 pub mod Says
 pub mod Reflection

@@ -91,7 +91,7 @@ overs : (m n : ℕ) → Denies (n ≤ m) (ltb m n)
 overs m n = denying (λ h. omega (arith, h)) (λ h. omega (arith, h)) (bars (lts m n))
 
 module _ (l : Layout) (len : ℕ) (img : List ℕ) where
-  file-rules : (n : ℕ) → Denies (FileRule l len img n) (isFileBroken l len img n)
+  pub file-rules : (n : ℕ) → Denies (FileRule l len img n) (isFileBroken l len img n)
   unfolding isFileBroken isCodeSize isDataSize
   file-rules n =
       picks (eqb n 1) (overs longest len)
@@ -108,7 +108,7 @@ kinds : (k j : Kind) → Says (k ≡ j) (is j k)
 kinds k j = saying (same-kind k j) (ap keyOf) (eqs (keyOf k) (keyOf j))
 
 -- the test of one kind
-sole : (t : Kind → Bool) (j : Kind) → T (every (λ k. cond (t k) (is j k) (not (is j k))) instructions) → (k : Kind)
+pub sole : (t : Kind → Bool) (j : Kind) → T (every (λ k. cond (t k) (is j k) (not (is j k))) instructions) → (k : Kind)
     → Says (k ≡ j) (t k)
 sole t j h k = subst (Says (k ≡ j)) (same-test t (is j) h k) (kinds k j)
 
@@ -157,7 +157,7 @@ regions Relative = fails (other isRegion refl refl)
 regions Region = holds refl
 regions Register = fails (other isRegion refl refl)
 
-registers : (f : Flow) → Says (f ≡ Register) (isRegister f)
+pub registers : (f : Flow) → Says (f ≡ Register) (isRegister f)
 registers Onward = fails (other isRegister refl refl)
 registers Relative = fails (other isRegister refl refl)
 registers Region = fails (other isRegister refl refl)
@@ -181,15 +181,15 @@ module _ (x : Instruction) where
 -- ---- words
 
 -- what word i reads as
-abbrev readingAt : List ℕ → ℕ → Reading
+abbrev pub readingAt : List ℕ → ℕ → Reading
 readingAt img i = readOf (loadOf 4 img (4 * i))
 
 module _ (img : List ℕ) (i : ℕ) (P : Instruction → Type 0) (t : View → Bool) (z : t nothing ≡ false) where
-  every-word : ((x : Instruction) → Denies (P x) (t (seen x))) → Denies ((x : Instruction) → Stands img i x → P x) (t (C.viewAt img i))
+  pub every-word : ((x : Instruction) → Denies (P x) (t (seen x))) → Denies ((x : Instruction) → Stands img i x → P x) (t (C.viewAt img i))
   unfolding wordView C.viewAt
   every-word f = every-reading P (λ r. t (viewOf r)) z f (readingAt img i)
 
-  some-word : ((x : Instruction) → Says (P x) (t (seen x))) → Says ((x : Instruction) × (Stands img i x × P x)) (t (C.viewAt img i))
+  pub some-word : ((x : Instruction) → Says (P x) (t (seen x))) → Says ((x : Instruction) × (Stands img i x × P x)) (t (C.viewAt img i))
   unfolding wordView C.viewAt
   some-word f = some-reading P (λ r. t (viewOf r)) z (readingAt img i) (λ x e. f x)
 
@@ -321,18 +321,23 @@ module _ (l : Layout) (img : List ℕ) (i : ℕ) where
   unfolding C.lands C.isEntry
   landings t = ands (les _ _) (ands (lts _ _) (ands (nots (eqs _ _)) (ands (spares (frees img _)) (spares (frees img _)))))
 
-  rule15 : Denies (L.Rule15 l img i) (C.broken15 l img i (C.viewAt img i))
-  unfolding seen C.broken15 C.targetOf
-  rule15 = every-word img i _ (C.broken15 l img i) refl (λ x. go (flowOf x) _ _)
-    where
-      go : (f : Flow) (a b : ℕ) → Denies (((f ≡ Relative) → L.Lands l img a) × ((f ≡ Region) → L.Lands l img b))
-          ((isRelative f || isRegion f) && not (C.lands l img (cond (isRelative f) a b)))
-      go Onward a b = keeps (λ e. absurd (other isRelative refl refl e), λ e. absurd (other isRegion refl refl e))
-      go Relative a b = denying (λ h. (λ _. h, λ e. absurd (other isRegion refl refl e))) (λ h. h .0 refl) (lacks (landings a))
-      go Region a b = denying (λ h. (λ e. absurd (other isRelative refl refl e), λ _. h)) (λ h. h .1 refl) (lacks (landings b))
-      go Register a b = keeps (λ e. absurd (other isRelative refl refl e), λ e. absurd (other isRegion refl refl e))
+  -- a test of the direct target, where there is one
+  module _ (x : Instruction) (P : ℕ → Type 0) (t : ℕ → Bool) (p : (a : ℕ) → Denies (P a) (t a)) where
+    pub targets : Denies (L.AtTarget l i x P) ((seen x .relative || seen x .region) && t (C.targetOf (seen x) (l .«code_base» + 4 * i)))
+    unfolding seen C.targetOf
+    targets = go (flowOf x) _ _
+      where
+        go : (f : Flow) (a b : ℕ) → Denies (((f ≡ Relative) → P a) × ((f ≡ Region) → P b)) ((isRelative f || isRegion f) && t (cond (isRelative f) a b))
+        go Onward a b = keeps (λ e. absurd (other isRelative refl refl e), λ e. absurd (other isRegion refl refl e))
+        go Relative a b = denying (λ h. (λ _. h, λ e. absurd (other isRegion refl refl e))) (λ h. h .0 refl) (p a)
+        go Region a b = denying (λ h. (λ e. absurd (other isRelative refl refl e), λ _. h)) (λ h. h .1 refl) (p b)
+        go Register a b = keeps (λ e. absurd (other isRelative refl refl e), λ e. absurd (other isRegion refl refl e))
 
-  word-rules : (n : ℕ) → Denies (WordRule l img n i) (isWordBroken l img n i)
+  rule15 : Denies (L.Rule15 l img i) (C.broken15 l img i (C.viewAt img i))
+  unfolding C.broken15
+  rule15 = every-word img i _ (C.broken15 l img i) refl (λ x. targets x (L.Lands l img) (λ a. not (C.lands l img a)) (λ a. lacks (landings a)))
+
+  pub word-rules : (n : ℕ) → Denies (WordRule l img n i) (isWordBroken l img n i)
   unfolding isWordBroken
   word-rules n =
       picks (eqb n 8) (rule8 img i)

@@ -1,7 +1,7 @@
 -- The checker: every rule at every place, tried in document 01's order, until one is broken.
 use Prim.Native.Nat.{ℕ, zero, suc, _-_, _/_}
 use mathlib.Core.Bool.{Bool, false, cond, not}
-use mathlib.Core.List.{List, [], _∷_}
+use mathlib.Core.List.{List, [], _∷_, _++_}
 use lib.Dec.{eqb, leb}
 use lib.ListN.{length, take, drop}
 use Rattle.view.specs.View.{isBranch, isJump}
@@ -23,18 +23,32 @@ accepted = verdict 0 noPlace
 
 -- ---- the order (document 01, under the Refusal table)
 
--- n words from word i on, each tried with 8 to 15 by number; then 16, whose place is the last word but one
-abbrev pub wordTrials : ℕ → ℕ → List Verdict
-wordTrials zero i = verdict 16 (i - 2) ∷ []
-wordTrials (suc n) i =
-    verdict 8 i ∷ verdict 9 i ∷ verdict 10 i ∷ verdict 11 i ∷ verdict 12 i ∷ verdict 13 i ∷ verdict 14 i ∷ verdict 15 i
-    ∷ wordTrials n (suc i)
-
--- layout and image, 1 to 7 by number; then the words from index 0
-abbrev pub trialsOf : Layout → List Verdict
-trialsOf l =
+-- layout and image, 1 to 7 by number
+abbrev pub fileTrials : List Verdict
+fileTrials =
     verdict 1 noPlace ∷ verdict 2 noPlace ∷ verdict 3 noPlace ∷ verdict 4 noPlace ∷ verdict 5 noPlace ∷ verdict 6 noPlace
-    ∷ verdict 7 noPlace ∷ wordTrials (l .«code_size» / 4) 0
+    ∷ verdict 7 noPlace ∷ []
+
+-- word i, 8 to 15 by number
+abbrev pub trialsAt : ℕ → List Verdict
+trialsAt i =
+    verdict 8 i ∷ verdict 9 i ∷ verdict 10 i ∷ verdict 11 i ∷ verdict 12 i ∷ verdict 13 i ∷ verdict 14 i ∷ verdict 15 i ∷ []
+
+-- after n words: 16, whose place is the last word but one
+abbrev pub trialsAfter : ℕ → List Verdict
+trialsAfter n = verdict 16 (n - 2) ∷ []
+
+-- n words from word i on, each tried with its `at`; then `after`, of the number of words
+abbrev pub inTurn : (ℕ → List Verdict) → (ℕ → List Verdict) → ℕ → ℕ → List Verdict
+inTurn at after zero i = after i
+inTurn at after (suc n) i = at i ++ inTurn at after n (suc i)
+
+-- layout and image; then the words from index 0
+abbrev pub trialsBy : (ℕ → List Verdict) → (ℕ → List Verdict) → Layout → List Verdict
+trialsBy at after l = fileTrials ++ inTurn at after (l .«code_size» / 4) 0
+
+abbrev pub trialsOf : Layout → List Verdict
+trialsOf l = trialsBy trialsAt trialsAfter l
 
 -- ---- the rules by number
 
@@ -62,9 +76,12 @@ isFileBroken l len img n =
     (cond (eqb n 6) (broken6 l)
     (cond (eqb n 7) (not (eqb (length img) (l .«code_size»))) false))))))
 
+-- any other number by `word`, which is told the place too
+abbrev pub brokenBy : (ℕ → ℕ → Bool) → Layout → ℕ → List ℕ → Verdict → Bool
+brokenBy word l len img t = cond (leb (t .number) 7) (isFileBroken l len img (t .number)) (word (t .number) (t .place))
+
 abbrev pub isBroken : Layout → ℕ → List ℕ → Verdict → Bool
-isBroken l len img t =
-    cond (leb (t .number) 7) (isFileBroken l len img (t .number)) (isWordBroken l img (t .number) (t .place))
+isBroken l len img t = brokenBy (isWordBroken l img) l len img t
 
 -- ---- the verdict
 
@@ -72,10 +89,6 @@ isBroken l len img t =
 abbrev pub firstOf : (Verdict → Bool) → List Verdict → Verdict
 firstOf broken [] = accepted
 firstOf broken (t ∷ ts) = cond (broken t) t (firstOf broken ts)
-
--- n words from word i on
-unfoldable pub wordsVerdict : Layout → List ℕ → ℕ → ℕ → Verdict
-wordsVerdict l img n i = firstOf (λ (t : Verdict). isWordBroken l img (t .number) (t .place)) (wordTrials n i)
 
 unfoldable pub checkOf : Layout → ℕ → List ℕ → Verdict
 checkOf l len img = firstOf (isBroken l len img) (trialsOf l)

@@ -95,6 +95,12 @@ FitsCode size m = (m % 16 ≡ 0) × (m + 16 ≤ size)
 
 -- ---- targets
 
+-- P of the direct target of instruction x at word i, counted from the slot or in its region, where it has one
+abbrev pub AtTarget : Layout → ℕ → Instruction → (ℕ → Type 0) → Type 0
+AtTarget l i x P =
+    ((flowOf x ≡ Relative) → P (relativeOf (l .«code_base» + 4 * i) (x .value)))
+    × ((flowOf x ≡ Region) → P (regionOf (l .«code_base» + 4 * i) (x .value)))
+
 -- what stands at word i, if anything, needs no guard
 abbrev pub Free : List ℕ → ℕ → Type 0
 Free img i = (x : Instruction) → Stands img i x → Not (NeedsGuard x)
@@ -141,12 +147,9 @@ abbrev pub Rule14 : List ℕ → ℕ → Type 0
 Rule14 img i =
     (x y : Instruction) → Stands img i x → Branches x → 0 < i → Stands img (i - 1) y → Not (Branches y)
 
--- a direct target, counted from the slot or in its region
+-- direct target where a branch may lead
 abbrev pub Rule15 : Layout → List ℕ → ℕ → Type 0
-Rule15 l img i =
-    (x : Instruction) → Stands img i x
-    → ((flowOf x ≡ Relative) → Lands l img (relativeOf (l .«code_base» + 4 * i) (x .value)))
-    × ((flowOf x ≡ Region) → Lands l img (regionOf (l .«code_base» + 4 * i) (x .value)))
+Rule15 l img i = (x : Instruction) → Stands img i x → AtTarget l i x (Lands l img)
 
 -- J, JAL, JR or JALR
 abbrev pub Rule16 : List ℕ → ℕ → Type 0

@@ -1,5 +1,5 @@
-pub mod Scan
 pub mod Check
+pub mod Scan
 pub mod Lawful
 pub mod Refusal
 pub mod Examples

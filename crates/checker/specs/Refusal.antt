@@ -40,22 +40,29 @@ WordRule l img n i =
     (pick (eqb n 15) (Rule15 l img i)
     (pick (eqb n 16) (Rule16 img i) (Unit {0})))))))))
 
--- the rule that a verdict names is kept at the place that it names
+-- the rule that a verdict names is kept at the place that it names: 1 to 7, and any other as Word has it
+abbrev pub KeepsBy : (ℕ → ℕ → Type 0) → Layout → ℕ → List ℕ → Verdict → Type 0
+KeepsBy Word l len img t = pick (leb (t .number) 7) (FileRule l len img (t .number)) (Word (t .number) (t .place))
+
 abbrev pub Keeps : Layout → ℕ → List ℕ → Verdict → Type 0
-Keeps l len img t = pick (leb (t .number) 7) (FileRule l len img (t .number)) (WordRule l img (t .number) (t .place))
+Keeps l len img t = KeepsBy (WordRule l img) l len img t
 
 -- P holds of every element
 abbrev pub All : {A : Type 0} → (A → Type 0) → List A → Type 0
 All P [] = Unit {0}
 All P (x ∷ xs) = P x × All P xs
 
--- verdict t refuses the module
-pub record Refusal (l : Layout) (len : ℕ) (img : List ℕ) (t : Verdict) : Type 0 where
+-- of the trials ts, t is broken and all before it are kept
+pub record FirstBroken (P : Verdict → Type 0) (ts : List Verdict) (t : Verdict) : Type 0 where
   pub before : List Verdict
   pub after : List Verdict
-  pub order : trialsOf l ≡ before ++ (t ∷ after)
-  pub kept : All (Keeps l len img) before
-  pub broken : Not (Keeps l len img t)
+  pub order : ts ≡ before ++ (t ∷ after)
+  pub kept : All P before
+  pub broken : Not (P t)
+
+-- verdict t refuses the module
+abbrev pub Refusal : Layout → ℕ → List ℕ → Verdict → Type 0
+Refusal l len img t = FirstBroken (Keeps l len img) (trialsOf l) t
 
 -- the number and place of a verdict (document 01, under the Refusal table): 8 to 16 name a word of the module, all others no word
 pub record Told (l : Layout) (v : Verdict) : Type 0 where

@@ -12,7 +12,7 @@ pub struct Verdict {
 // The place of what is no word's.
 pub const NO_PLACE: u32 = 0xFFFFFFFF;
 
-pub(crate) fn at(number: u32, place: u32) -> Verdict
+pub fn at(number: u32, place: u32) -> Verdict
     ensures { λ r. ⌜ r ≡ Spec.verdict number place ⌝ }
 {
     Verdict { number, place }

@@ -4,7 +4,6 @@ ghost use Prim.Native.Nat.{_+_, _*_, _/_, _≤_};
 ghost use lib.ListN.{length};
 ghost use Rattle.rules.specs.Rules.{Sized, viewAt};
 ghost use Rattle.checker.specs.Scan as Spec;
-ghost use Rattle.checker.specs.Check.{wordsVerdict};
 use crate::verdict;
 use crate::verdict::Verdict;
 use layout::Layout;
@@ -53,7 +52,7 @@ fn word_refusal(layout: Layout, image: &[u8], i: usize, after: bool, v: View) ->
 }
 
 // A plain word breaks none of 8 to 15 and is no branch: it need not be read.
-fn try_word(layout: Layout, image: &[u8], i: usize, after: bool) -> Tried
+pub fn try_word(layout: Layout, image: &[u8], i: usize, after: bool) -> Tried
     requires { ⌜ Sized layout (now image) × (4 * i + 4 ≤ length (now image)) ⌝ }
     ensures { λ r. ⌜ r ≡ Spec.triedOf layout (now (image .entry)) i after (viewAt (now (image .entry)) i) ⌝ }
 {
@@ -75,7 +74,7 @@ fn try_word(layout: Layout, image: &[u8], i: usize, after: bool) -> Tried
 // The words from index 0, each with 8 to 15; then 16.
 pub(crate) fn words_verdict(layout: Layout, image: &[u8]) -> Verdict
     requires { ⌜ Sized layout (now image) ⌝ }
-    ensures { λ r. ⌜ r ≡ wordsVerdict layout (now (image .entry)) (layout .«code_size» / 4) 0 ⌝ }
+    ensures { λ r. ⌜ r ≡ Spec.wordsVerdict layout (now (image .entry)) (layout .«code_size» / 4) 0 ⌝ }
 {
     let n = image.len() / 4;
     let mut after = false;

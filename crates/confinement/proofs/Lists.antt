@@ -22,7 +22,7 @@ use Rattle.machine.proofs.Steps.{step-touches}
 use Rattle.machine.proofs.Runs.{run-repeats}
 use Rattle.checker.specs.Lawful.{Stands, Lawful}
 use Rattle.checker.specs.Refusal.{All}
-use Rattle.checker.proofs.Whole.{join}
+use Rattle.checker.proofs.Trials.{join}
 use Rattle.confinement.specs.Events.{Write, Event, Step, Run, Resume, Change, isOther, mayWrite}
 use Rattle.confinement.specs.Calls.{Lent, lent, Reply, putState, methods}
 use Rattle.confinement.specs.Lists.{isExit, mayAll, putByte, putAll, stands, eventOf, listOf, runTries, tries, listTries}
