@@ -31,7 +31,7 @@ module _ (img : List ℕ) where
   unfolding viewBefore
   none-before = refl
 
-  one-before : (i : ℕ) → viewAt img i ≡ viewBefore img (i + 1)
+  pub one-before : (i : ℕ) → viewAt img i ≡ viewBefore img (i + 1)
   unfolding viewBefore
   one-before i = let z : i + 1 - 1 ≡ i = omega arith in rw (le-leb 1 (i + 1) (omega arith), z)
 
@@ -109,7 +109,7 @@ module _ (l : Layout) (img : List ℕ) (n : ℕ) {w : ℕ} {b : Bool} (p : w ≡
 
 -- ---- a word that is plain need not be read
 
-neither : (a b : Bool) → a || b ≡ false → (a ≡ false) × (b ≡ false)
+pub neither : (a b : Bool) → a || b ≡ false → (a ≡ false) × (b ≡ false)
 neither true b h = absurd (false≢true (sym h))
 neither false b h = (refl, h)
 

@@ -3,6 +3,7 @@ use Prim.Native.Nat.{ℕ, zero, suc, _≤_, _<_}
 use mathlib.Core.Path.{_≡_, refl, sym, subst, _∙_}
 use mathlib.Core.Bool.{Bool}
 use mathlib.Core.List.{List}
+use native.Mathlib.Nat.{zero-add}
 use native.Mathlib.Omega.{arith}
 use lib.ListN.{length, drop, length-take, length-drop}
 use Rattle.layout.specs.declared.Layout.{Layout}
@@ -40,18 +41,20 @@ module _ (l : Layout) where
   pub file-told : (k : ℕ) → k < 8 → Told l (verdict k noPlace)
   file-told k h = record { number-most = omega arith; no-word = λ _. refl; a-word = λ p. absurd (omega (arith, h, p)) }
 
-  pub word-told : (k i : ℕ) → 8 ≤ k → k ≤ 16 → i < wordsIn l → Told l (verdict k i)
+  word-told : (k i : ℕ) → 8 ≤ k → k ≤ 16 → i < wordsIn l → Told l (verdict k i)
   word-told k i p q h = record { number-most = q; no-word = λ r. absurd (omega (arith, p, r)); a-word = λ _. h }
 
-  at-told : (i : ℕ) → i < wordsIn l → All (Told l) (trialsAt i)
+  pub at-told : (i : ℕ) → i < wordsIn l → All (Told l) (trialsAt i)
   at-told i h =
       implied (λ t. (8 ≤ t .number) × ((t .number ≤ 16) × (t .place ≡ i))) (Told l)
       (λ t f. word-told (t .number) (t .place) (f .0) (f .1 .0) (omega (arith, h, f .1 .1))) (trialsAt i) (omega arith)
 
+  pub after-told : 16 ≤ l .«code_size» → All (Told l) (trialsAfter (wordsIn l))
+  after-told h = (word-told 16 _ (omega arith) (omega arith) (omega (arith, h)), tt)
+
   words-told : 16 ≤ l .«code_size» → All (Told l) (inTurn trialsAt trialsAfter (wordsIn l) 0)
   words-told h =
-      of-words (Told l) trialsAt trialsAfter (wordsIn l) 0
-      (λ j _ q. at-told j (omega (arith, q)), (word-told 16 _ (omega arith) (omega arith) (omega (arith, h)), tt))
+      of-words (Told l) trialsAt trialsAfter (wordsIn l) 0 (λ j _ q. at-told j (omega (arith, q)), rw zero-add (after-told h))
 
   pub verdict-told : (len : ℕ) (img : List ℕ) → Told l (checkOf l len img)
   unfolding checkOf

@@ -20,7 +20,7 @@ pub struct Tried {
 }
 
 // v is the view of word i, and after says whether the word before it is a branch or jump.
-fn word_refusal(layout: Layout, image: &[u8], i: usize, after: bool, v: View) -> u32
+pub fn word_refusal(layout: Layout, image: &[u8], i: usize, after: bool, v: View) -> u32
     requires { ⌜ Sized layout (now image) × (4 * i + 4 ≤ length (now image)) ⌝ }
     ensures { λ r. ⌜ r ≡ Spec.wordRefusal layout (now (image .entry)) i after v ⌝ }
 {

@@ -188,12 +188,12 @@ module _ (w : ℕ) {f : Fields} (e : f ≡ cutOf w) (fit : Fit f) where
 -- ---- words of a guard
 
 -- one kind, and a test of the instruction beside it
-abbrev both-are : (Kind → Bool) → (Instruction → Bool) → Reading → Bool
+abbrev pub both-are : (Kind → Bool) → (Instruction → Bool) → Reading → Bool
 both-are t u (Legal i) = t (i .kind) && u i
 both-are t u NoInstruction = false
 
 module _ (t : Kind → Bool) (j : Kind) (h : T (every (λ k. cond (t k) (is j k) (not (is j k))) instructions)) (u : Instruction → Bool) (f : Fields) where
-  told-both : both-are t u (readFields f) ≡ fitsKind j f && u (decodeOf j (drawingFor j) f)
+  pub told-both : both-are t u (readFields f) ≡ fitsKind j f && u (decodeOf j (drawingFor j) f)
   unfolding decodeOf
   told-both = go (fitsKind j f) refl
     where

@@ -34,7 +34,7 @@ fn lands(layout: Layout, image: &[u8], target: u32) -> bool
     is_entry(image, (offset / 4) as usize)
 }
 
-fn target(v: View, pc: u32) -> u32
+pub fn target(v: View, pc: u32) -> u32
     ensures { λ r. ⌜ r ≡ Spec.targetOf v pc ⌝ }
 {
     if v.relative {

@@ -1,0 +1,6 @@
+pub mod Bits
+pub mod Scan
+pub mod Reflection
+pub mod Whole
+pub mod Verdicts
+pub mod Examples

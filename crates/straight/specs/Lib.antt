@@ -1,0 +1,6 @@
+pub mod Rules
+pub mod Straight
+pub mod Check
+pub mod Refusal
+pub mod Scan
+pub mod Examples
