@@ -185,7 +185,7 @@ module _ (l : Layout) (es : List Event) (w : Lent State) (g : Ranged w) where
 
 -- ---- a start on bytes is a start on the state that they stand for
 
-abbrev viewed : Lent (List ℕ) → Lent State
+abbrev pub viewed : Lent (List ℕ) → Lent State
 viewed w = lent (stateOf (w .state)) (w .memory)
 
 alike-viewed : (l : Layout) (v w : Lent (List ℕ)) → Alike l v w → Alike l (viewed v) (viewed w)
@@ -209,7 +209,7 @@ module _ (l : Layout) (len : ℕ) (img : List ℕ) (h : len ≤ longest) (w : Le
   start-ranged : Ranged (viewed w)
   start-ranged = record { typed = state-typed (w .state) (p .sized); bytes = p .bytes }
 
-  start-viewed : Start methods l len img (viewed w)
+  pub start-viewed : Start methods l len img (viewed w)
   start-viewed =
       record {
         placed = p .placed;
@@ -233,6 +233,12 @@ module _ (l : Layout) (len : ℕ) (img : List ℕ) (h : len ≤ longest) (w : Le
 
   start-seen : (es : List Event) → map (seen l) (listOf exported l es w) ≡ map seenBytes (map (seen l) (listOf methods l es (viewed w)))
   start-seen es = ap (λ x. map (seen l) (listOf exported l es x)) (sym start-bytes) ∙ seen-bytes l es (viewed w) start-ranged
+
+  -- the calls answer what the methods answer
+  pub start-answers : (es : List Event) → map (λ r. r .answer) (listOf exported l es w) ≡ map (λ r. r .answer) (listOf methods l es (viewed w))
+  start-answers es =
+      ap (λ x. map (λ r. r .answer) (listOf exported l es x)) (sym start-bytes)
+      ∙ rw (list-bytes l es (viewed w) start-ranged, map-map (λ (r : Reply (List ℕ)). r .answer) toBytes (listOf methods l es (viewed w)))
 
 -- and the bytes of a start are a start
 pub start-encoded : (l : Layout) (len : ℕ) (img : List ℕ) (w : Lent State) → Start methods l len img w → Start exported l len img (inBytes w)

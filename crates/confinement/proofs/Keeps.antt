@@ -204,7 +204,7 @@ module _ (l : Layout) (len : ℕ) (img : List ℕ) (ok : Lawful l len img) where
     -- ---- a completed step
 
     module _ (z : stepOf s m .number ≡ 0) where
-      moved : Moved (x .kind) x base s after
+      pub moved : Moved (x .kind) x base s after
       unfolding tryOf
       moved =
           subst (λ (t : State). Moved (x .kind) x base s t) (sym applied)

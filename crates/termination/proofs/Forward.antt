@@ -1,0 +1,167 @@
+-- The invariant of a straight-through module before its first exit: every completed step leads to a later word, and none past the last bundle's start.
+use Prim.Native.Nat.{ℕ, zero, suc, _+_, _-_, _*_, _/_, _%_, _≤_, _<_}
+use mathlib.Core.Path.{_≡_, refl, sym, ap, subst, _∙_}
+use mathlib.Core.Bool.{not, _&&_, false≢true}
+use mathlib.Core.Logic.{_⊎_, inl, inr, ⊎-elim}
+use mathlib.Core.List.{List}
+use native.Mathlib.Omega.{arith}
+use native.Mathlib.Decide.{decLt}
+use lib.Dec.{eqb}
+use lib.ListN.{length}
+use Rattle.word.proofs.Choice.{by-test}
+use Rattle.isa.specs.declared.kind.System.the-variants.{Syscall}
+use Rattle.isa.specs.declared.kind.Kind.{Kind}
+use Rattle.isa.specs.declared.kind.Kind.the-variants as K
+use Rattle.isa.specs.declared.kind.Instruction.{Instruction}
+use Rattle.class.specs.declared.Flow.{Flow}
+use Rattle.class.specs.declared.Flow.the-variants.{Onward, Relative, Region, Register}
+use Rattle.branch.specs.Branch.{slotOf, relativeOf, regionOf}
+use Rattle.effect.specs.declared.effect.Effect.{Effect}
+use Rattle.system.specs.System.{isUser, systemCallOf}
+use Rattle.decision.specs.Decision.{byKind, decisionOf}
+use Rattle.layout.specs.declared.Layout.{Layout}
+use Rattle.view.specs.View.{isRelative, isRegion}
+use Rattle.rules.specs.Not.{Not}
+use Rattle.machine.specs.declared.state.State.{State}
+use Rattle.machine.specs.State.{registerOf, specialOf}
+use Rattle.machine.specs.Step.{effectOf, effectAt, exitOf, Outcome, tryOf, stepOf}
+use Rattle.checker.specs.Lawful.{Stands, flowOf, Branches, AtTarget, wordsIn, Lawful}
+use Rattle.straight.specs.Straight.{Ahead, Excused, Straight}
+use Rattle.confinement.proofs.ByKind.{Leads}
+use Rattle.confinement.proofs.Areas.{code-bundles}
+use Rattle.confinement.proofs.Invariant.{Inside, stands-once}
+use Rattle.confinement.proofs.Steps.{in-code, here, stands-here, effect-is, step-is}
+use Rattle.confinement.proofs.Keeps.{slot-is, moved, step-inside}
+
+-- a System Call exits, whatever its code and mode
+call-exits : (code status : ℕ) → Not (exitOf (systemCallOf code status) ≡ 0)
+unfolding systemCallOf
+call-exits code status = by-test (λ (e : Effect). Not (exitOf e ≡ 0)) (eqb code 15 && not (isUser status)) (λ _ z. omega (arith, z)) (λ _ z. omega (arith, z))
+
+module _ (l : Layout) (len : ℕ) (img : List ℕ) (ok : Lawful l len img) (straight : Straight l img) where
+  -- the last bundle's first word
+  abbrev pub end : ℕ
+  end = wordsIn l - 4
+
+  -- word p is executed next, then word q: the one after it, or where the branch in word p - 1 leads
+  pub record Forward (p q : ℕ) : Type 0 where
+    pub early : p ≤ end
+    pub rising : p < end → (p < q) × (q ≤ end)
+    pub slot : (q ≡ p + 1) ⊎ ((0 < p) × ((y : Instruction) × (Stands img (p - 1) y × Branches y)))
+
+  pub record Going (s : State) (m : List ℕ) : Type 0 where
+    pub inside : Inside l len img s m
+    pub forward : Forward (inside .position .word) (inside .position .following)
+
+  module _ (s : State) (m : List ℕ) (v : Inside l len img s m) where
+    abbrev i : ℕ
+    i = v .position .word
+
+    abbrev j : ℕ
+    j = v .position .following
+
+    abbrev x : Instruction
+    x = here l len img ok s m v
+
+    abbrev base : ℕ
+    base = registerOf (s .registers) (x .rs)
+
+    stands : Stands img i x
+    stands = stands-here l len img ok s m v
+
+    -- ---- the last bundle's first word exits
+
+    by-kind : (k : Kind) → x .kind ≡ k → stepOf s m .number ≡ exitOf (byKind k x base (registerOf (s .registers) (x .rt)) (specialOf s) (length m))
+    unfolding tryOf effectOf decisionOf
+    by-kind k e =
+        ap (λ (o : Outcome). o .number) (step-is l len img ok s m v)
+        ∙ ap exitOf (effect-is l len img ok s m v)
+        ∙ ap (λ (y : Kind). exitOf (byKind y x base (registerOf (s .registers) (x .rt)) (specialOf s) (length m))) e
+
+    pub end-exits : i ≡ end → Not (stepOf s m .number ≡ 0)
+    end-exits e z =
+        let (y, (p, (k, _))) = straight .r21 .0 in
+        let same : y ≡ x = stands-once img i y x (subst (λ (n : ℕ). Stands img n y) (sym e) p) stands in
+        call-exits (x .value) (s .status) (sym (by-kind (K.System Syscall) (ap (λ (w : Instruction). w .kind) (sym same) ∙ k)) ∙ z)
+
+    -- ---- a completed step
+
+    module _ (f : Forward i j) (z : stepOf s m .number ≡ 0) where
+      before-end : i < end
+      before-end = elim (decLt i end) [ yes g ↦ g | no g ↦ absurd (end-exits (omega (arith, f .early)) z) ]
+
+      within : (i < j) × (j ≤ end)
+      within = f .rising before-end
+
+      abbrev after : State
+      after = stepOf s m .machine .state
+
+      abbrev then : Inside l len img after (stepOf s m .machine .memory)
+      then = step-inside l len img ok s m v
+
+      pub next-word : then .position .word ≡ j
+      next-word = omega (arith, then .position .counter, moved l len img ok s m v z .counter, v .position .next-counter)
+
+      abbrev k : ℕ
+      k = then .position .following
+
+      -- where the next step leads, from next PC
+      to-word : (w : ℕ) → after .«next_pc» ≡ l .«code_base» + 4 * w → k ≡ w
+      to-word w e = omega (arith, then .position .next-counter, e)
+
+      -- no branch, or one that is not taken
+      onward : after .«next_pc» ≡ slotOf (s .«next_pc») → Forward j k
+      onward e =
+          let n : k ≡ j + 1 = to-word (j + 1) (e ∙ slot-is l len img ok s m v (omega (arith, within .1))) in
+          record { early = within .1; rising = λ h. (omega (arith, n), omega (arith, n, h)); slot = inl n }
+
+      -- a branch stands in no slot, so that word i + 1 comes next
+      beside : Branches x → j ≡ i + 1
+      beside b = ⊎-elim (λ e. e) (λ h. absurd (ok .r14 i (in-code l len img ok s m v) x (h .1 .0) stands b (h .0) (h .1 .1 .0) (h .1 .1 .1))) (f .slot)
+
+      -- a branch that is taken
+      branched : Branches x → (t : ℕ) → after .«next_pc» ≡ t → Ahead l i t ⊎ Excused l i x t → Forward j k
+      branched b t e (inl (p, q)) =
+          let n = beside b in
+          let c : l .«code_size» % 16 ≡ 0 = code-bundles l len img ok in
+          let least : i + 2 ≤ k = omega (arith, then .position .next-counter, e, p) in
+          let most : k ≤ end = omega (arith, then .position .next-counter, e, q, c) in
+          let before : j - 1 ≡ i = omega (arith, n) in
+          record {
+            early = within .1;
+            rising = λ _. (omega (arith, n, least), most);
+            slot = inr (omega (arith, n), (x, (subst (λ (w : ℕ). Stands img w x) (sym before) stands, b)));
+          }
+      branched b t e (inr (_, (h, _))) = absurd (let g = before-end in omega (arith, g, h))
+
+      abbrev Forwards : ℕ → Type 0
+      Forwards t = Ahead l i t ⊎ Excused l i x t
+
+      targets : AtTarget l i x Forwards
+      targets = straight .r20 i (in-code l len img ok s m v) x stands .1
+
+      leads : (g : Flow) → flowOf x ≡ g → Leads g x base (specialOf s) (after .«next_pc») → Forward j k
+      leads Onward e h = onward h
+      leads Relative e (inl h) = onward h
+      leads Relative e (inr h) = branched (λ o. false≢true (sym (ap isRelative o) ∙ ap isRelative e)) _ h
+          (subst (λ (c : ℕ). Forwards (relativeOf c (x .value))) (sym (v .position .counter)) (targets .0 e))
+      leads Region e h = branched (λ o. false≢true (sym (ap isRegion o) ∙ ap isRegion e)) _ h
+          (subst (λ (c : ℕ). Forwards (regionOf c (x .value))) (sym (v .position .counter)) (targets .1 e))
+      leads Register e h = absurd (straight .r20 i (in-code l len img ok s m v) x stands .0 e)
+
+      step-forward : Forward (then .position .word) k
+      step-forward = rw next-word (leads (flowOf x) refl (moved l len img ok s m v z .goes))
+
+  -- ---- a completed step goes on, to a later word
+
+  pub record Advance (s t : State) (m n : List ℕ) (g : Going s m) : Type 0 where
+    pub going : Going t n
+    pub later : g .inside .position .word < going .inside .position .word
+
+  pub step-going : (s : State) (m : List ℕ) (g : Going s m) → stepOf s m .number ≡ 0
+      → Advance s (stepOf s m .machine .state) m (stepOf s m .machine .memory) g
+  step-going s m g z =
+      record {
+        going = record { inside = step-inside l len img ok s m (g .inside); forward = step-forward s m (g .inside) (g .forward) z };
+        later = omega (arith, within s m (g .inside) (g .forward) z .0, next-word s m (g .inside) (g .forward) z);
+      }

@@ -1,0 +1,3 @@
+pub mod Forward
+pub mod Bounds
+pub mod Whole

@@ -1,0 +1,1 @@
+// A straight-through module ends: definitions in specs/, theorems in proofs/; no code of its own.
