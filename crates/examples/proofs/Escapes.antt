@@ -78,14 +78,14 @@ escape-denies l (t ∷ ts) h a =
 -- ---- what every row of a table has
 
 -- from two columns of the table that are equal
-module _ {A : Type 0} (f g : Row → A) where
-  top : (r : Row) (rs : List Row) → map f (r ∷ rs) ≡ map g (r ∷ rs) → f r ≡ g r
+module _ {R A : Type 0} (f g : R → A) where
+  top : (r : R) (rs : List R) → map f (r ∷ rs) ≡ map g (r ∷ rs) → f r ≡ g r
   top r rs e = ap (λ xs. getD xs 0 (f r)) e
 
-  below : (r : Row) (rs : List Row) → map f (r ∷ rs) ≡ map g (r ∷ rs) → map f rs ≡ map g rs
+  below : (r : R) (rs : List R) → map f (r ∷ rs) ≡ map g (r ∷ rs) → map f rs ≡ map g rs
   below r rs e = ap (drop 1) e
 
-  each : (P : Row → Type 0) → ((r : Row) → f r ≡ g r → P r) → (rs : List Row) → map f rs ≡ map g rs → All P rs
+  pub each : (P : R → Type 0) → ((r : R) → f r ≡ g r → P r) → (rs : List R) → map f rs ≡ map g rs → All P rs
   each P h [] e = tt
   each P h (r ∷ rs) e = (h r (top r rs e), each P h rs (below r rs e))
 

@@ -1,3 +1,4 @@
 pub mod Cases
 pub mod Escapes
 pub mod Sample
+pub mod Straight

@@ -1,0 +1,48 @@
+-- What the tables of specs/Straight say, computed; each module is placed in a start of demand 3, and those that are sharp are accepted by the profile.
+use Prim.Native.Nat.{ℕ}
+use mathlib.Core.Path.{_≡_, refl, ap}
+use mathlib.Core.List.{List, map, _++_}
+use Rattle.word.specs.Number.{signedOf, extendOf}
+use Rattle.class.specs.Class.{registerWritten}
+use Rattle.isa.specs.Reading.{fits, decodeOf, readFields, readOf}
+use Rattle.branch.specs.Branch.{slotOf, relativeOf, regionOf, branchIf, jumpIf}
+use Rattle.system.specs.System.{isUser, systemCallOf}
+use Rattle.decision.specs.Decision.{decisionOf}
+use Rattle.machine.specs.State.{isLawful, refusalOf}
+use Rattle.apply.specs.Apply.{putOf}
+use Rattle.machine.specs.Step.{effectOf, effectAt, tryOf, stepOf}
+use Rattle.machine.specs.Run.{repeatOf, runOf}
+use Rattle.layout.specs.Layout.{isCodeSize, isDataSize, isPlaced, isApart}
+use Rattle.view.specs.View.{seen, wordView}
+use Rattle.view.specs.Guard.{isMaskOf, maskIn, isMergeOf}
+use Rattle.rules.specs.Offset.{offsetOf}
+use Rattle.rules.specs.Rules.{viewAt, viewBefore, broken10, broken11, isGuarded, fitsData, fitsCode, broken12, broken13, broken14, targetOf, isEntry, lands, broken15}
+use Rattle.checker.specs.Check.{isWordBroken, isFileBroken, accepted, codeOf}
+use Rattle.checker.specs.Refusal.{All}
+use Rattle.straight.specs.Rules.{isAhead, isExcused, broken20, isCall0, isBack, differs}
+use Rattle.straight.specs.Check.{isStraightBroken, straightOf}
+use Rattle.confinement.specs.Calls.{methods}
+use Rattle.confinement.specs.Demand.{Start}
+use Rattle.examples.specs.Escapes.{imageOf, memoryLength, lentOf}
+use Rattle.examples.specs.Straight.{Timed, timed, expected, sharp, longer}
+use Rattle.examples.proofs.Starts.{factsOf, factsDue, starts}
+use Rattle.examples.proofs.Escapes.{each}
+
+pub straight-timed : map timed (sharp ++ longer) ≡ map expected (sharp ++ longer)
+unfolding signedOf extendOf registerWritten fits decodeOf readFields readOf slotOf relativeOf regionOf branchIf jumpIf isUser systemCallOf decisionOf isLawful refusalOf putOf effectOf effectAt tryOf stepOf repeatOf runOf isCodeSize isDataSize isPlaced isApart seen wordView isMaskOf maskIn isMergeOf offsetOf viewAt viewBefore broken10 broken11 isGuarded fitsData fitsCode broken12 broken13 broken14 targetOf isEntry lands broken15 isWordBroken isFileBroken isAhead isExcused broken20 isCall0 isBack differs isStraightBroken
+straight-timed = refl
+
+pub straight-starts : All (λ t. Start methods (t .row .layout) memoryLength (imageOf (t .row)) (lentOf (t .row))) (sharp ++ longer)
+unfolding codeOf isLawful refusalOf isUser
+straight-starts =
+    each
+    (λ t. factsOf (t .row .layout) memoryLength (lentOf (t .row)))
+    (λ t. factsDue (t .row .layout) memoryLength (imageOf (t .row)))
+    (λ t. Start methods (t .row .layout) memoryLength (imageOf (t .row)) (lentOf (t .row)))
+    (λ t e. starts (t .row .layout) memoryLength (imageOf (t .row)) (lentOf (t .row)) e)
+    (sharp ++ longer)
+    refl
+
+pub sharp-accepted : All (λ t. straightOf (t .row .layout) memoryLength (imageOf (t .row)) ≡ accepted) sharp
+unfolding signedOf registerWritten fits decodeOf readFields readOf slotOf regionOf isCodeSize isDataSize isPlaced isApart seen wordView isMaskOf maskIn isMergeOf offsetOf viewAt viewBefore broken10 broken11 isGuarded fitsData fitsCode broken12 broken13 broken14 targetOf isEntry lands broken15 isWordBroken isFileBroken isAhead isExcused broken20 isCall0 isBack differs isStraightBroken straightOf
+sharp-accepted = (refl, (refl, (refl, tt)))
