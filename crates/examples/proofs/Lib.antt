@@ -3,3 +3,4 @@ pub mod Starts
 pub mod Escapes
 pub mod Sample
 pub mod Straight
+pub mod Profile

@@ -3,4 +3,3 @@ pub mod Scan
 pub mod Reflection
 pub mod Whole
 pub mod Verdicts
-pub mod Examples

@@ -3,4 +3,3 @@ pub mod Straight
 pub mod Check
 pub mod Refusal
 pub mod Scan
-pub mod Examples
