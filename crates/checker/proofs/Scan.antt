@@ -1,5 +1,5 @@
 -- The words of an image in their order: what the parts of the code say, put together.
-use Prim.Native.Nat.{ℕ, zero, suc, _+_, _-_, _/_, _≤_, _<_}
+use Prim.Native.Nat.{ℕ, suc, _+_, _-_, _/_, _≤_, _<_}
 use mathlib.Core.Path.{_≡_, refl, sym, ap, _∙_}
 use mathlib.Core.Bool.{Bool, true, false, not, cond, _||_, false≢true}
 use mathlib.Core.List.{List, [], _∷_, _++_}

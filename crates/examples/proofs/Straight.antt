@@ -1,7 +1,6 @@
 -- What the tables of specs/Straight say, computed; each module is placed in a start of demand 3, and those that are sharp are accepted by the profile.
-use Prim.Native.Nat.{ℕ}
-use mathlib.Core.Path.{_≡_, refl, ap}
-use mathlib.Core.List.{List, map, _++_}
+use mathlib.Core.Path.{_≡_, refl}
+use mathlib.Core.List.{map, _++_}
 use Rattle.word.specs.Number.{signedOf, extendOf}
 use Rattle.class.specs.Class.{registerWritten}
 use Rattle.isa.specs.Reading.{fits, decodeOf, readFields, readOf}
@@ -12,6 +11,7 @@ use Rattle.machine.specs.State.{isLawful, refusalOf}
 use Rattle.apply.specs.Apply.{putOf}
 use Rattle.machine.specs.Step.{effectOf, effectAt, tryOf, stepOf}
 use Rattle.machine.specs.Run.{repeatOf, runOf}
+use Rattle.machine.specs.Resume.{isServed, resumeOf}
 use Rattle.layout.specs.Layout.{isCodeSize, isDataSize, isPlaced, isApart}
 use Rattle.view.specs.View.{seen, wordView}
 use Rattle.view.specs.Guard.{isMaskOf, maskIn, isMergeOf}
@@ -23,8 +23,9 @@ use Rattle.straight.specs.Rules.{isAhead, isExcused, broken20, isCall0, isBack,
 use Rattle.straight.specs.Check.{isStraightBroken, straightOf}
 use Rattle.confinement.specs.Calls.{methods}
 use Rattle.confinement.specs.Demand.{Start}
+use Rattle.termination.specs.Ends.{answersOf}
 use Rattle.examples.specs.Escapes.{imageOf, memoryLength, lentOf}
-use Rattle.examples.specs.Straight.{Timed, timed, expected, sharp, longer}
+use Rattle.examples.specs.Straight.{timed, expected, shortest, sharp, longer, resumedEvents, resumedAnswers}
 use Rattle.examples.proofs.Starts.{factsOf, factsDue, starts}
 use Rattle.examples.proofs.Escapes.{each}
 
@@ -46,3 +47,7 @@ straight-starts =
 pub sharp-accepted : All (λ t. straightOf (t .row .layout) memoryLength (imageOf (t .row)) ≡ accepted) sharp
 unfolding signedOf registerWritten fits decodeOf readFields readOf slotOf regionOf isCodeSize isDataSize isPlaced isApart seen wordView isMaskOf maskIn isMergeOf offsetOf viewAt viewBefore broken10 broken11 isGuarded fitsData fitsCode broken12 broken13 broken14 targetOf isEntry lands broken15 isWordBroken isFileBroken isAhead isExcused broken20 isCall0 isBack differs isStraightBroken straightOf
 sharp-accepted = (refl, (refl, (refl, tt)))
+
+pub straight-resumed : answersOf methods (shortest .row .layout) resumedEvents (lentOf (shortest .row)) ≡ resumedAnswers
+unfolding fits decodeOf readFields readOf slotOf regionOf isUser systemCallOf decisionOf isLawful refusalOf putOf effectOf effectAt tryOf stepOf repeatOf runOf isServed resumeOf
+straight-resumed = refl

@@ -1,6 +1,6 @@
 -- The bound of a straight-through module (document 02, Ticket 2), in small. `sharp`: modules that complete as many steps as it allows.
 -- `longer`: modules that break one rule of the profile alone, at one place, and complete more.
-use Prim.Native.Nat.{ℕ, suc, _-_}
+use Prim.Native.Nat.{ℕ, suc}
 use mathlib.Core.List.{List, [], _∷_, _++_}
 use lib.ListN.{replicate}
 use Rattle.layout.specs.declared.Layout.{Layout}
@@ -9,8 +9,8 @@ use Rattle.checker.specs.declared.verdict.Verdict.{Verdict}
 use Rattle.checker.specs.Check.{verdict, noPlace, brokenBy}
 use Rattle.straight.specs.Check.{straightTrials, isStraightBroken}
 use Rattle.effect.specs.Touched.{cell}
-use Rattle.confinement.specs.Events.{Run}
-use Rattle.confinement.specs.Calls.{Answer, Ran, methods}
+use Rattle.confinement.specs.Events.{Event, Run, Resume}
+use Rattle.confinement.specs.Calls.{Answer, Ran, Resumed, methods}
 use Rattle.termination.specs.Ends.{answersOf, bound}
 use Rattle.examples.specs.Escapes.{Nothing, Row, imageOf, memoryLength, lentOf, brokenAmong, startOf, nop, andi, or27, jr, jump, syscall, usual, wide}
 
@@ -44,9 +44,12 @@ timedIn l ws vs k n =
 abbrev pub ending : ℕ → List ℕ
 ending a = syscall ∷ nop ∷ jump a ∷ nop ∷ []
 
+abbrev pub shortest : Timed
+shortest = timedIn (layoutOf 64 16 32 16) (ending 64) [] 46 0
+
 abbrev pub sharp : List Timed
 sharp =
-    timedIn (layoutOf 64 16 32 16) (ending 64) [] 46 0
+    shortest
     ∷ timedIn usual (replicate 4 nop ++ ending 80) [] 46 4
     ∷ timedIn wide (replicate 12 nop ++ ending 112) [] 46 12
     ∷ []
@@ -67,4 +70,19 @@ longer =
     ∷ runsOn (andi 16 ∷ or27 ∷ jr ∷ nop ∷ ending 80) 20 2
     -- no SYSCALL
     ∷ runsOn (nop ∷ nop ∷ nop ∷ nop ∷ nop ∷ nop ∷ jump 80 ∷ nop ∷ []) 21 noPlace
+    ∷ []
+
+-- ---- resumed in its last bundle, a module goes round it to the same exit: three steps, so that four words need a run of four
+
+abbrev pub resumedEvents : List Event
+resumedEvents = Run 1 ∷ Resume ∷ Run 3 ∷ Run 1 ∷ Resume ∷ Run 4 ∷ []
+
+abbrev pub resumedAnswers : List Answer
+resumedAnswers =
+    Ran 46 0 (cell 0 0 0)
+    ∷ Resumed 0
+    ∷ Ran 0 3 (cell 0 0 0)
+    ∷ Ran 46 0 (cell 0 0 0)
+    ∷ Resumed 0
+    ∷ Ran 46 3 (cell 0 0 0)
     ∷ []

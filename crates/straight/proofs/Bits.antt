@@ -13,7 +13,6 @@ use Rattle.isa.specs.declared.kind.Branch.the-variants.{J}
 use Rattle.isa.specs.declared.kind.System.the-variants.{Syscall}
 use Rattle.isa.specs.declared.kind.Kind.{Kind}
 use Rattle.isa.specs.declared.kind.Kind.the-variants as K
-use Rattle.isa.specs.declared.kind.Instruction.{Instruction}
 use Rattle.isa.specs.declared.reading.Reading.{Reading}
 use Rattle.isa.specs.declared.reading.Reading.the-variants.{Legal, NoInstruction}
 use Rattle.isa.specs.Reading.{fits, decodeOf, readFields, readOf}

@@ -1,5 +1,5 @@
 -- The words of an image in their order: what the parts of the code say, put together.
-use Prim.Native.Nat.{ℕ, _+_, _-_, _*_, _/_, _^_, _<_}
+use Prim.Native.Nat.{ℕ, _+_, _-_, _*_, _/_}
 use mathlib.Core.Path.{_≡_, refl, sym, ap, _∙_}
 use mathlib.Core.Bool.{Bool, true, false, not, cond, _&&_, _||_}
 use mathlib.Core.List.{List}
@@ -16,7 +16,7 @@ use Rattle.checker.specs.declared.verdict.Verdict.{Verdict}
 use Rattle.checker.specs.declared.words.Tried.{Tried}
 use Rattle.checker.specs.Check.{verdict, noPlace, accepted, inTurn, isWordBroken, firstOf}
 use Rattle.checker.specs.Refusal.{All}
-use Rattle.checker.specs.Scan.{fileRefusal, wordRefusal, triedOf}
+use Rattle.checker.specs.Scan.{fileRefusal, wordRefusal}
 use Rattle.checker.proofs.Trials.{of-words}
 use Rattle.checker.proofs.Scan.{given, ladder, Gives, one-before, neither, plain-tried, OfWords, file-refused, words-tried}
 use Rattle.straight.specs.Rules.{isAhead, isExcused, isForward, broken20, isCall0, isBack, differs, broken21}

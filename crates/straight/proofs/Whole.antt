@@ -1,7 +1,7 @@
 -- The profile accepts exactly the lawful modules that are straight-through, and refuses any other by the first broken rule and its place.
 use Prim.Native.Nat.{ℕ, _+_, _<_}
 use mathlib.Core.Path.{_≡_, ap, _∙_}
-use mathlib.Core.List.{List, [], _∷_, _++_}
+use mathlib.Core.List.{List, [], _∷_}
 use native.Mathlib.Omega.{arith}
 use Rattle.layout.specs.declared.Layout.{Layout}
 use Rattle.rules.specs.Not.{Not}

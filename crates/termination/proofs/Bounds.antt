@@ -1,31 +1,27 @@
 -- From the invariant: how many steps runs, step calls and whole lists complete before the first exit, for the methods of State.
 use Prim.Native.Nat.{ℕ, zero, suc, _+_, _≤_, _<_}
-use mathlib.Core.Path.{_≡_, refl, sym, ap, subst, _∙_}
-use mathlib.Core.Bool.{Bool, cond}
+use mathlib.Core.Path.{_≡_, subst}
 use mathlib.Core.Logic.{inl, inr, ⊎-elim}
-use mathlib.Core.List.{List, [], _∷_, map}
+use mathlib.Core.List.{List, [], _∷_}
 use native.Mathlib.Omega.{arith}
-use lib.Dec.{eqb}
-use lib.ListN.{length, replicate}
+use lib.ListN.{replicate}
 use Rattle.word.proofs.Choice.{by-test, by-zero}
 use Rattle.layout.specs.declared.Layout.{Layout}
-use Rattle.rules.specs.Not.{Not}
 use Rattle.machine.specs.declared.state.State.{State}
-use Rattle.machine.specs.Step.{Outcome, stepOf}
+use Rattle.machine.specs.Step.{stepOf}
 use Rattle.machine.specs.Run.{Course, repeatOf, runOf}
-use Rattle.machine.specs.Resume.{resumeOf}
 use Rattle.machine.proofs.Runs.{run-repeats, run-running}
 use Rattle.machine.proofs.Resumes.{by-resume}
-use Rattle.checker.specs.Lawful.{wordsIn, Lawful}
+use Rattle.checker.specs.Lawful.{Lawful}
 use Rattle.straight.specs.Straight.{Straight}
-use Rattle.confinement.specs.Events.{Write, Event, Step, Run, Resume, Change}
-use Rattle.confinement.specs.Calls.{Lent, lent, Answer, Stepped, Resumed, Reply, replied, methods}
-use Rattle.confinement.specs.Lists.{stands, changeOf, listOf}
+use Rattle.confinement.specs.Events.{Event, Step, Run, Resume, Change}
+use Rattle.confinement.specs.Calls.{Lent, lent, Answer, Resumed, Reply, methods}
+use Rattle.confinement.specs.Lists.{stands}
 use Rattle.confinement.specs.Demand.{Allowed}
 use Rattle.confinement.proofs.Steps.{unrefused, exit-is}
 use Rattle.confinement.proofs.Lists.{run-inside}
 use Rattle.termination.specs.Ends.{answersOf, Some, Exits, stepsBefore}
-use Rattle.termination.proofs.Forward.{end, Going, Advance, step-going}
+use Rattle.termination.proofs.Forward.{end, Going, step-going}
 
 module _ (l : Layout) (len : ℕ) (img : List ℕ) (ok : Lawful l len img) (straight : Straight l img) where
   abbrev last : ℕ

@@ -1,5 +1,5 @@
 -- The invariant of a straight-through module before its first exit: every completed step leads to a later word, and none past the last bundle's start.
-use Prim.Native.Nat.{ℕ, zero, suc, _+_, _-_, _*_, _/_, _%_, _≤_, _<_}
+use Prim.Native.Nat.{ℕ, _+_, _-_, _*_, _%_, _≤_, _<_}
 use mathlib.Core.Path.{_≡_, refl, sym, ap, subst, _∙_}
 use mathlib.Core.Bool.{not, _&&_, false≢true}
 use mathlib.Core.Logic.{_⊎_, inl, inr, ⊎-elim}
@@ -24,7 +24,7 @@ use Rattle.view.specs.View.{isRelative, isRegion}
 use Rattle.rules.specs.Not.{Not}
 use Rattle.machine.specs.declared.state.State.{State}
 use Rattle.machine.specs.State.{registerOf, specialOf}
-use Rattle.machine.specs.Step.{effectOf, effectAt, exitOf, Outcome, tryOf, stepOf}
+use Rattle.machine.specs.Step.{effectOf, exitOf, Outcome, tryOf, stepOf}
 use Rattle.checker.specs.Lawful.{Stands, flowOf, Branches, AtTarget, wordsIn, Lawful}
 use Rattle.straight.specs.Straight.{Ahead, Excused, Straight}
 use Rattle.confinement.proofs.ByKind.{Leads}
@@ -47,6 +47,7 @@ module _ (l : Layout) (len : ℕ) (img : List ℕ) (ok : Lawful l len img) (stra
   pub record Forward (p q : ℕ) : Type 0 where
     pub early : p ≤ end
     pub rising : p < end → (p < q) × (q ≤ end)
+    pub entered : p ≡ end → q ≡ p + 1
     pub slot : (q ≡ p + 1) ⊎ ((0 < p) × ((y : Instruction) × (Stands img (p - 1) y × Branches y)))
 
   pub record Going (s : State) (m : List ℕ) : Type 0 where
@@ -86,17 +87,11 @@ module _ (l : Layout) (len : ℕ) (img : List ℕ) (ok : Lawful l len img) (stra
 
     -- ---- a completed step
 
-    module _ (f : Forward i j) (z : stepOf s m .number ≡ 0) where
-      before-end : i < end
-      before-end = elim (decLt i end) [ yes g ↦ g | no g ↦ absurd (end-exits (omega (arith, f .early)) z) ]
-
-      within : (i < j) × (j ≤ end)
-      within = f .rising before-end
-
+    module _ (z : stepOf s m .number ≡ 0) where
       abbrev after : State
       after = stepOf s m .machine .state
 
-      abbrev then : Inside l len img after (stepOf s m .machine .memory)
+      abbrev pub then : Inside l len img after (stepOf s m .machine .memory)
       then = step-inside l len img ok s m v
 
       pub next-word : then .position .word ≡ j
@@ -105,31 +100,45 @@ module _ (l : Layout) (len : ℕ) (img : List ℕ) (ok : Lawful l len img) (stra
       abbrev k : ℕ
       k = then .position .following
 
-      -- where the next step leads, from next PC
-      to-word : (w : ℕ) → after .«next_pc» ≡ l .«code_base» + 4 * w → k ≡ w
+      -- next PC is where the instruction's flow lets it go
+      pub goes : Leads (flowOf x) x base (specialOf s) (after .«next_pc»)
+      goes = moved l len img ok s m v z .goes
+
+      pub to-word : (w : ℕ) → after .«next_pc» ≡ l .«code_base» + 4 * w → k ≡ w
       to-word w e = omega (arith, then .position .next-counter, e)
 
+      pub to-slot : j + 1 < wordsIn l → after .«next_pc» ≡ slotOf (s .«next_pc») → k ≡ j + 1
+      to-slot h e = to-word (j + 1) (e ∙ slot-is l len img ok s m v h)
+
+    module _ (f : Forward i j) (z : stepOf s m .number ≡ 0) where
+      before-end : i < end
+      before-end = elim (decLt i end) [ yes g ↦ g | no g ↦ absurd (end-exits (omega (arith, f .early)) z) ]
+
+      pub within : (i < j) × (j ≤ end)
+      within = f .rising before-end
+
       -- no branch, or one that is not taken
-      onward : after .«next_pc» ≡ slotOf (s .«next_pc») → Forward j k
+      onward : after z .«next_pc» ≡ slotOf (s .«next_pc») → Forward j (k z)
       onward e =
-          let n : k ≡ j + 1 = to-word (j + 1) (e ∙ slot-is l len img ok s m v (omega (arith, within .1))) in
-          record { early = within .1; rising = λ h. (omega (arith, n), omega (arith, n, h)); slot = inl n }
+          let n = to-slot z (omega (arith, within .1)) e in
+          record { early = within .1; rising = λ h. (omega (arith, n), omega (arith, n, h)); entered = λ _. n; slot = inl n }
 
       -- a branch stands in no slot, so that word i + 1 comes next
       beside : Branches x → j ≡ i + 1
       beside b = ⊎-elim (λ e. e) (λ h. absurd (ok .r14 i (in-code l len img ok s m v) x (h .1 .0) stands b (h .0) (h .1 .1 .0) (h .1 .1 .1))) (f .slot)
 
       -- a branch that is taken
-      branched : Branches x → (t : ℕ) → after .«next_pc» ≡ t → Ahead l i t ⊎ Excused l i x t → Forward j k
+      branched : Branches x → (t : ℕ) → after z .«next_pc» ≡ t → Ahead l i t ⊎ Excused l i x t → Forward j (k z)
       branched b t e (inl (p, q)) =
           let n = beside b in
           let c : l .«code_size» % 16 ≡ 0 = code-bundles l len img ok in
-          let least : i + 2 ≤ k = omega (arith, then .position .next-counter, e, p) in
-          let most : k ≤ end = omega (arith, then .position .next-counter, e, q, c) in
+          let least : i + 2 ≤ k z = omega (arith, then z .position .next-counter, e, p) in
+          let most : k z ≤ end = omega (arith, then z .position .next-counter, e, q, c) in
           let before : j - 1 ≡ i = omega (arith, n) in
           record {
             early = within .1;
             rising = λ _. (omega (arith, n, least), most);
+            entered = λ h. absurd (omega (arith, n, least, most, h));
             slot = inr (omega (arith, n), (x, (subst (λ (w : ℕ). Stands img w x) (sym before) stands, b)));
           }
       branched b t e (inr (_, (h, _))) = absurd (let g = before-end in omega (arith, g, h))
@@ -140,7 +149,7 @@ module _ (l : Layout) (len : ℕ) (img : List ℕ) (ok : Lawful l len img) (stra
       targets : AtTarget l i x Forwards
       targets = straight .r20 i (in-code l len img ok s m v) x stands .1
 
-      leads : (g : Flow) → flowOf x ≡ g → Leads g x base (specialOf s) (after .«next_pc») → Forward j k
+      leads : (g : Flow) → flowOf x ≡ g → Leads g x base (specialOf s) (after z .«next_pc») → Forward j (k z)
       leads Onward e h = onward h
       leads Relative e (inl h) = onward h
       leads Relative e (inr h) = branched (λ o. false≢true (sym (ap isRelative o) ∙ ap isRelative e)) _ h
@@ -149,8 +158,8 @@ module _ (l : Layout) (len : ℕ) (img : List ℕ) (ok : Lawful l len img) (stra
           (subst (λ (c : ℕ). Forwards (regionOf c (x .value))) (sym (v .position .counter)) (targets .1 e))
       leads Register e h = absurd (straight .r20 i (in-code l len img ok s m v) x stands .0 e)
 
-      step-forward : Forward (then .position .word) k
-      step-forward = rw next-word (leads (flowOf x) refl (moved l len img ok s m v z .goes))
+      pub step-forward : Forward (then z .position .word) (k z)
+      step-forward = rw (next-word z) (leads (flowOf x) refl (goes z))
 
   -- ---- a completed step goes on, to a later word
 
@@ -163,5 +172,5 @@ module _ (l : Layout) (len : ℕ) (img : List ℕ) (ok : Lawful l len img) (stra
   step-going s m g z =
       record {
         going = record { inside = step-inside l len img ok s m (g .inside); forward = step-forward s m (g .inside) (g .forward) z };
-        later = omega (arith, within s m (g .inside) (g .forward) z .0, next-word s m (g .inside) (g .forward) z);
+        later = omega (arith, within s m (g .inside) (g .forward) z .0, next-word s m (g .inside) z);
       }

@@ -1,3 +1,4 @@
 pub mod Forward
 pub mod Bounds
+pub mod Again
 pub mod Whole

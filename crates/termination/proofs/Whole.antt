@@ -1,9 +1,9 @@
 -- A straight-through module is known to finish, proved: for the methods of State, and for the calls exported to C; and demand 3 holds of it.
-use Prim.Native.Nat.{ℕ, _+_, _-_, _≤_, _<_}
+use Prim.Native.Nat.{ℕ, _+_, _-_, _≤_}
 use mathlib.Core.Path.{_≡_, sym, ap, subst}
 use mathlib.Core.Bool.{false}
 use mathlib.Core.Logic.{inl}
-use mathlib.Core.List.{List, [], _∷_}
+use mathlib.Core.List.{List, [], _∷_, _++_}
 use native.Mathlib.Omega.{arith}
 use lib.ListN.{getD, replicate}
 use Rattle.word.specs.Bytes.{longest}
@@ -19,9 +19,10 @@ use Rattle.confinement.specs.Calls.{Lent, Answer, Changed, Calls, methods, expo
 use Rattle.confinement.specs.Demand.{Start, Confinement, Alike, Same, Demand3}
 use Rattle.confinement.proofs.Exported.{viewed, start-viewed, start-answers}
 use Rattle.confinement.proofs.Whole.{start-inside}
-use Rattle.termination.specs.Ends.{answersOf, Some, Exits, AtMost, stepsBefore, bound, Ends, StraightEnds}
+use Rattle.termination.specs.Ends.{answersOf, Some, Last, Exits, AtMost, stepsBefore, bound, Ends, StraightEnds}
 use Rattle.termination.proofs.Forward.{Going}
 use Rattle.termination.proofs.Bounds.{run-bounded, run-ends, steps-end, list-bounded}
+use Rattle.termination.proofs.Again.{going-left, list-again}
 
 module _ (l : Layout) (len : ℕ) (img : List ℕ) (ok : Lawful l len img) (straight : Straight l img) (w : Lent State) (p : Start methods l len img w) where
   -- a start goes on from word 0
@@ -38,7 +39,13 @@ module _ (l : Layout) (len : ℕ) (img : List ℕ) (ok : Lawful l len img) (stra
         going =
             record {
               inside = v;
-              forward = record { early = omega (arith, i); rising = λ h. (omega (arith, i, j), omega (arith, i, j, h)); slot = inl (omega (arith, i, j)) };
+              forward =
+                  record {
+                    early = omega (arith, i);
+                    rising = λ h. (omega (arith, i, j), omega (arith, i, j, h));
+                    entered = λ _. omega (arith, i, j);
+                    slot = inl (omega (arith, i, j));
+                  };
             };
         first = i;
       }
@@ -55,6 +62,7 @@ module _ (l : Layout) (len : ℕ) (img : List ℕ) (ok : Lawful l len img) (stra
         run-total = λ b. omega (arith, z, run-bounded l len img ok straight b (w .state) (w .memory) g);
         run-exits = λ b h. run-ends l len img ok straight b (w .state) (w .memory) g (omega (arith, z, h));
         step-exits = steps-end l len img ok straight (wordsIn l - 3) w g (omega (arith, z, words));
+        later-exits = λ es b h. list-again l len img ok straight es b w (going-left l len img ok straight (w .state) (w .memory) g) h;
       }
 
 pub straight-ends-methods : StraightEnds methods
@@ -76,6 +84,7 @@ straight-ends-exported l len img e w p =
       run-total = λ b. subst (AtMost (bound l)) (sym (ap only (same (Run b ∷ [])))) (r .run-total b);
       run-exits = λ b k. subst Exits (sym (ap only (same (Run b ∷ [])))) (r .run-exits b k);
       step-exits = subst (Some Exits) (sym (same (replicate (wordsIn l - 3) Step))) (r .step-exits);
+      later-exits = λ es b k. subst (Last Exits) (sym (same (es ++ (Run b ∷ [])))) (r .later-exits es b k);
     }
 
 -- ---- demand 3

@@ -4,14 +4,14 @@ use Prim.Native.Nat.{ℕ, _+_, _-_, _≤_, _<_}
 use mathlib.Core.Path.{_≡_}
 use mathlib.Core.Bool.{cond}
 use mathlib.Core.Logic.{_⊎_}
-use mathlib.Core.List.{List, [], _∷_, map}
+use mathlib.Core.List.{List, [], _∷_, _++_, map}
 use lib.Dec.{eqb}
 use lib.ListN.{replicate}
 use Rattle.layout.specs.declared.Layout.{Layout}
 use Rattle.checker.specs.Check.{accepted}
 use Rattle.checker.specs.Lawful.{wordsIn}
 use Rattle.straight.specs.Check.{straightOf}
-use Rattle.confinement.specs.Events.{Event, Step}
+use Rattle.confinement.specs.Events.{Event, Step, Run}
 use Rattle.confinement.specs.Calls.{Lent, Answer, Stepped, Ran, Resumed, Changed, Calls}
 use Rattle.confinement.specs.Lists.{listOf}
 use Rattle.confinement.specs.Demand.{Allowed, Start}
@@ -24,6 +24,12 @@ answersOf c l es w = map (λ r. r .answer) (listOf c l es w)
 abbrev pub Some : {A : Type 0} → (A → Type 0) → List A → Type 0
 Some P [] = ⊥
 Some P (x ∷ xs) = P x ⊎ Some P xs
+
+-- the last of a list
+abbrev pub Last : {A : Type 0} → (A → Type 0) → List A → Type 0
+Last P [] = ⊥
+Last P (x ∷ []) = P x
+Last P (x ∷ y ∷ ys) = Last P (y ∷ ys)
 
 -- a step or run that ends in one of 40, 46, 47 and 48
 abbrev pub Exits : Answer → Type 0
@@ -59,6 +65,8 @@ pub record Ends {S : Type 0} (c : Calls S) (l : Layout) (w : Lent S) : Type 0 wh
   pub run-exits : (b : ℕ) → bound l < b → Exits (c .run b (w .state) (w .memory) .answer)
   -- in step calls, of which one more than the bound has an exit among them
   pub step-exits : Some Exits (answersOf c l (replicate (wordsIn l - 3) Step) w)
+  -- and after every list, so that the module finishes once more however often it is resumed: in a run of as many steps as it has words
+  pub later-exits : (es : List Event) (b : ℕ) → wordsIn l ≤ b → Last Exits (answersOf c l (es ++ (Run b ∷ [])) w)
 
 -- for every module that the profile accepts, placed and started as in demand 3
 abbrev pub StraightEnds : {S : Type 0} → Calls S → Type 0
