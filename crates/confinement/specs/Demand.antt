@@ -106,11 +106,15 @@ Same c l es v w = map (seen l) (listOf c l es v) ≡ map (seen l) (listOf c l es
 
 -- ---- the statement
 
--- for every module that the checker accepts, every start and every list: confinement, and the same for every start alike
+-- for every list: confinement, and the same for every start alike
+abbrev pub Secured : {S : Type 0} → Calls S → Layout → ℕ → List ℕ → Lent S → Type 0
+Secured {S} c l len img w =
+    (es : List Event)
+    → Confinement c l es w
+    × ((v : Lent S) → Start c l len img v → Alike l v w → Same c l es v w)
+
+-- for every module that the checker accepts and every start
 abbrev pub Demand3 : {S : Type 0} → Calls S → Type 0
 Demand3 {S} c =
     (l : Layout) (len : ℕ) (img : List ℕ) → checkOf l len img ≡ accepted
-    → (w : Lent S) → Start c l len img w
-    → (es : List Event)
-    → Confinement c l es w
-    × ((v : Lent S) → Start c l len img v → Alike l v w → Same c l es v w)
+    → (w : Lent S) → Start c l len img w → Secured c l len img w

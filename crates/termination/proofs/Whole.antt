@@ -9,17 +9,15 @@ use lib.ListN.{getD, replicate}
 use Rattle.word.specs.Bytes.{longest}
 use Rattle.layout.specs.declared.Layout.{Layout}
 use Rattle.machine.specs.declared.state.State.{State}
-use Rattle.checker.specs.Check.{accepted}
 use Rattle.checker.specs.Lawful.{wordsIn, Lawful}
 use Rattle.straight.specs.Straight.{Straight}
-use Rattle.straight.specs.Check.{straightOf}
 use Rattle.straight.proofs.Whole.{straight-lawful, straight-straight, straight-accepted}
 use Rattle.confinement.specs.Events.{Event, Step, Run}
-use Rattle.confinement.specs.Calls.{Lent, Answer, Changed, Calls, methods, exported}
-use Rattle.confinement.specs.Demand.{Start, Confinement, Alike, Same, Demand3}
+use Rattle.confinement.specs.Calls.{Lent, Answer, Changed, methods, exported}
+use Rattle.confinement.specs.Demand.{Start}
 use Rattle.confinement.proofs.Exported.{viewed, start-viewed, start-answers}
-use Rattle.confinement.proofs.Whole.{start-inside}
-use Rattle.termination.specs.Ends.{answersOf, Some, Last, Exits, AtMost, stepsBefore, bound, Ends, StraightEnds}
+use Rattle.confinement.proofs.Whole.{start-inside, demand-3-methods, demand-3-exported}
+use Rattle.termination.specs.Ends.{answersOf, Some, Last, Exits, AtMost, stepsBefore, bound, Ends, StraightEnds, StraightDemand3}
 use Rattle.termination.proofs.Forward.{Going}
 use Rattle.termination.proofs.Bounds.{run-bounded, run-ends, steps-end, list-bounded}
 use Rattle.termination.proofs.Again.{going-left, list-again}
@@ -87,10 +85,10 @@ straight-ends-exported l len img e w p =
       later-exits = λ es b k. subst (Last Exits) (sym (same (es ++ (Run b ∷ [])))) (r .later-exits es b k);
     }
 
--- ---- demand 3
+-- ---- demand 3: what the profile accepts, the checker accepts
 
-module _ {S : Type 0} (c : Calls S) (d : Demand3 c) (l : Layout) (len : ℕ) (img : List ℕ) (e : straightOf l len img ≡ accepted) where
-  -- what the profile accepts is confined, as whatever the checker accepts is
-  pub straight-demand-3 : (w : Lent S) → Start c l len img w → (es : List Event)
-      → Confinement c l es w × ((v : Lent S) → Start c l len img v → Alike l v w → Same c l es v w)
-  straight-demand-3 = d l len img (straight-accepted l len img e)
+pub straight-demand-3-methods : StraightDemand3 methods
+straight-demand-3-methods l len img e = demand-3-methods l len img (straight-accepted l len img e)
+
+pub straight-demand-3-exported : StraightDemand3 exported
+straight-demand-3-exported l len img e = demand-3-exported l len img (straight-accepted l len img e)

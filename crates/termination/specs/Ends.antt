@@ -1,5 +1,5 @@
--- A straight-through module is known to finish (document 02, Ticket 2): `StraightEnds`, at the end, is the statement; proofs/Whole proves it for
--- both levels of calls.
+-- A straight-through module is known to finish (document 02, Ticket 2): `StraightEnds` and `StraightDemand3`, at the end, are the statements;
+-- proofs/Whole proves them for both levels of calls.
 use Prim.Native.Nat.{ℕ, _+_, _-_, _≤_, _<_}
 use mathlib.Core.Path.{_≡_}
 use mathlib.Core.Bool.{cond}
@@ -14,7 +14,7 @@ use Rattle.straight.specs.Check.{straightOf}
 use Rattle.confinement.specs.Events.{Event, Step, Run}
 use Rattle.confinement.specs.Calls.{Lent, Answer, Stepped, Ran, Resumed, Changed, Calls}
 use Rattle.confinement.specs.Lists.{listOf}
-use Rattle.confinement.specs.Demand.{Allowed, Start}
+use Rattle.confinement.specs.Demand.{Allowed, Start, Secured}
 
 -- what the events of a list answer
 abbrev pub answersOf : {S : Type 0} → Calls S → Layout → List Event → Lent S → List Answer
@@ -72,3 +72,9 @@ pub record Ends {S : Type 0} (c : Calls S) (l : Layout) (w : Lent S) : Type 0 wh
 abbrev pub StraightEnds : {S : Type 0} → Calls S → Type 0
 StraightEnds {S} c =
     (l : Layout) (len : ℕ) (img : List ℕ) → straightOf l len img ≡ accepted → (w : Lent S) → Start c l len img w → Ends c l w
+
+-- and demand 3 holds of every such module
+abbrev pub StraightDemand3 : {S : Type 0} → Calls S → Type 0
+StraightDemand3 {S} c =
+    (l : Layout) (len : ℕ) (img : List ℕ) → straightOf l len img ≡ accepted
+    → (w : Lent S) → Start c l len img w → Secured c l len img w
