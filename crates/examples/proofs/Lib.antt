@@ -2,5 +2,3 @@ pub mod Cases
 pub mod Starts
 pub mod Escapes
 pub mod Sample
-pub mod Straight
-pub mod Profile

@@ -1,5 +1,3 @@
 pub mod Cases
 pub mod Escapes
 pub mod Sample
-pub mod Straight
-pub mod Profile

@@ -1,4 +1,4 @@
--- What the tables of specs/Straight say, computed; each module is placed in a start of demand 3, and those that are sharp are accepted by the profile.
+-- What the tables of specs/Bound say, computed; each module is placed in a start of demand 3, and those that are sharp are accepted by the profile.
 use mathlib.Core.Path.{_≡_, refl}
 use mathlib.Core.List.{map, _++_}
 use Rattle.word.specs.Number.{signedOf, extendOf}
@@ -24,10 +24,10 @@ use Rattle.straight.specs.Check.{isStraightBroken, straightOf}
 use Rattle.confinement.specs.Calls.{methods}
 use Rattle.confinement.specs.Demand.{Start}
 use Rattle.termination.specs.Ends.{answersOf}
 use Rattle.examples.specs.Escapes.{imageOf, memoryLength, lentOf}
-use Rattle.examples.specs.Straight.{timed, expected, shortest, sharp, longer, resumedEvents, resumedAnswers}
+use Rattle.straight_examples.specs.Bound.{timed, expected, shortest, sharp, longer, resumedEvents, resumedAnswers}
 use Rattle.examples.proofs.Starts.{factsOf, factsDue, starts}
 use Rattle.examples.proofs.Escapes.{each}
 
 pub straight-timed : map timed (sharp ++ longer) ≡ map expected (sharp ++ longer)
 unfolding signedOf extendOf registerWritten fits decodeOf readFields readOf slotOf relativeOf regionOf branchIf jumpIf isUser systemCallOf decisionOf isLawful refusalOf putOf effectOf effectAt tryOf stepOf repeatOf runOf isCodeSize isDataSize isPlaced isApart seen wordView isMaskOf maskIn isMergeOf offsetOf viewAt viewBefore broken10 broken11 isGuarded fitsData fitsCode broken12 broken13 broken14 targetOf isEntry lands broken15 isWordBroken isFileBroken isAhead isExcused broken20 isCall0 isBack differs isStraightBroken

@@ -13,7 +13,7 @@ use Rattle.rules.specs.Rules.{viewAt, viewBefore, broken10, broken11, isGuarded
 use Rattle.checker.specs.Check.{isWordBroken, isFileBroken, checkOf}
 use Rattle.straight.specs.Rules.{isAhead, isExcused, broken20, isCall0, isBack, differs}
 use Rattle.straight.specs.Check.{isStraightBroken, straightOf}
-use Rattle.examples.specs.Profile.{saidOf, wanted, cases}
+use Rattle.straight_examples.specs.Profile.{saidOf, wanted, cases}
 
 pub profile-said : map saidOf cases ≡ map wanted cases
 unfolding signedOf extendOf registerWritten fits decodeOf readAs readFields readOf isCodeSize isDataSize isPlaced isApart slotOf relativeOf regionOf seen wordView isMaskOf maskIn isMergeOf viewAt viewBefore broken10 broken11 isGuarded offsetOf fitsData fitsCode broken12 broken13 broken14 targetOf isEntry lands broken15 isWordBroken isFileBroken checkOf isAhead isExcused broken20 isCall0 isBack differs isStraightBroken straightOf
