@@ -96,7 +96,7 @@ module _ (l : Layout) where
     m = w .memory
 
     -- the exported calls take the bytes of a state, and read the state back from them
-    same : stateOf (bytesOf s) ≡ s
+    pub same : stateOf (bytesOf s) ≡ s
     same = state-bytes s (g .typed)
 
     whole : isState (bytesOf s) ≡ true
@@ -123,7 +123,7 @@ module _ (l : Layout) where
       change-ranged true e = rw e (put-all-ranged xs w (may e) g)
       change-ranged false e = rw e g
 
-    event-bytes : (e : Event) → eventOf exported l e (inBytes w) ≡ toBytes (eventOf methods l e w)
+    pub event-bytes : (e : Event) → eventOf exported l e (inBytes w) ≡ toBytes (eventOf methods l e w)
     event-bytes Step =
         ap (answered Stepped) (step-call (bytesOf s) m (bytes-bytes s) whole)
         ∙ ap (λ x. toBytes (replied Stepped (stepOf x m))) same
@@ -134,7 +134,7 @@ module _ (l : Layout) where
         ∙ ap (λ x. toBytes (replied (λ k _. Resumed k) (resumeOf x m))) same
     event-bytes (Change xs) = change-bytes xs (stands methods l xs w) refl
 
-    event-ranged : (e : Event) → Ranged (eventOf methods l e w .left)
+    pub event-ranged : (e : Event) → Ranged (eventOf methods l e w .left)
     event-ranged Step = record { typed = step-typed s m (g .typed) (g .bytes); bytes = step-bytes s m (g .bytes) }
     event-ranged (Run n) = record { typed = run-typed n s m (g .bytes) (g .typed); bytes = run-bytes n s m (g .bytes) }
     event-ranged Resume = record { typed = resume-typed s m (g .typed); bytes = rw (resume-memory s m) (g .bytes) }
@@ -206,7 +206,7 @@ module _ (b : List ℕ) (n : ℕ) (h : n ≤ longest) (q : Not (callRefusal b n 
   start-refusal e = q (rw start-state e)
 
 module _ (l : Layout) (len : ℕ) (img : List ℕ) (h : len ≤ longest) (w : Lent (List ℕ)) (p : Start exported l len img w) where
-  start-ranged : Ranged (viewed w)
+  pub start-ranged : Ranged (viewed w)
   start-ranged = record { typed = state-typed (w .state) (p .sized); bytes = p .bytes }
 
   pub start-viewed : Start methods l len img (viewed w)
@@ -225,7 +225,7 @@ module _ (l : Layout) (len : ℕ) (img : List ℕ) (h : len ≤ longest) (w : Le
         bytes = p .bytes;
       }
 
-  start-bytes : inBytes (viewed w) ≡ w
+  pub start-bytes : inBytes (viewed w) ≡ w
   start-bytes = rw (bytes-state (w .state) (p .sized) (start-state (w .state) len h (p .not-17)))
 
   start-confined : (es : List Event) → Confinement methods l es (viewed w) → Confinement exported l es w

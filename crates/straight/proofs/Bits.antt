@@ -21,7 +21,7 @@ use Rattle.branch.specs.Branch.{regionOf}
 use Rattle.layout.specs.declared.Layout.{Layout}
 use Rattle.view.specs.View.{isRegion, seen, viewOf, wordView}
 use Rattle.quick.proofs.Guards.{both-are, told-both}
-use Rattle.straight.specs.Rules.{isLastBundle, isCall, calls, isCall0, isBack}
+use Rattle.straight.specs.Rules.{isLastBundle, isSyscallKind, syscalls0, isSyscall0, isBack}
 
 -- two tests, of which each holds where the other does
 same-test : (a b : Bool) → (a ≡ true → b ≡ true) → (b ≡ true → a ≡ true) → a ≡ b
@@ -45,14 +45,14 @@ module _ (w : ℕ) (h : w < 2 ^ 32) where
 
   -- ---- SYSCALL with code 0
 
-  call-both : (x : Reading) → calls x ≡ both-are isCall (λ i. eqb (i .value) 0) x
-  call-both (Legal i) = refl
-  call-both NoInstruction = refl
+  syscall-both : (x : Reading) → syscalls0 x ≡ both-are isSyscallKind (λ i. eqb (i .value) 0) x
+  syscall-both (Legal i) = refl
+  syscall-both NoInstruction = refl
 
-  pub call0-told : eqb w 12 ≡ isCall0 w
-  unfolding isCall0 readOf fits decodeOf
-  call0-told =
-      rw (call-both (readFields (cutOf w)), told-both isCall (K.System Syscall) tt (λ i. eqb (i .value) 0) (cutOf w))
+  pub syscall0-told : eqb w 12 ≡ isSyscall0 w
+  unfolding isSyscall0 readOf fits decodeOf
+  syscall0-told =
+      rw (syscall-both (readFields (cutOf w)), told-both isSyscallKind (K.System Syscall) tt (λ i. eqb (i .value) 0) (cutOf w))
       (same-test _ _ (λ e. rw (eqb-true w 12 e)) (λ e. fields (cutOf w) (join-cut w) e))
     where
       fields : (f : Fields) → joinOf f ≡ w

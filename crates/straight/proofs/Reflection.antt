@@ -27,8 +27,8 @@ use Rattle.straight.specs.Refusal.{StraightRule, StraightKeeps}
 js : (k : Kind) → Says (k ≡ K.Branch J) (isRegion (classOf k .flow) && not (classOf k .link))
 js = sole (λ k. isRegion (classOf k .flow) && not (classOf k .link)) (K.Branch J) tt
 
-syscalls : (k : Kind) → Says (k ≡ K.System Syscall) (C.isCall k)
-syscalls = sole C.isCall (K.System Syscall) tt
+syscalls : (k : Kind) → Says (k ≡ K.System Syscall) (C.isSyscallKind k)
+syscalls = sole C.isSyscallKind (K.System Syscall) tt
 
 module _ (l : Layout) (img : List ℕ) (i : ℕ) where
   aheads : (t : ℕ) → Says (S.Ahead l i t) (C.isAhead l i t)
@@ -45,9 +45,9 @@ module _ (l : Layout) (img : List ℕ) (i : ℕ) where
       every-word img i _ (C.broken20 l i) refl
       (λ x. both (bars (registers (flowOf x))) (targets l img i x _ (λ t. not (C.isForward l i (seen x) t)) (λ t. lacks (ors (aheads t) (excuses x t)))))
 
-  calls : Says (S.Call0 img i) (C.isCall0 (wordAt img i))
-  unfolding C.isCall0
-  calls = some-reading _ C.calls refl (readingAt img i) (λ x e. ands (syscalls (x .kind)) (eqs (x .value) 0))
+  calls : Says (S.Syscall0 img i) (C.isSyscall0 (wordAt img i))
+  unfolding C.isSyscall0
+  calls = some-reading _ C.syscalls0 refl (readingAt img i) (λ x e. ands (syscalls (x .kind)) (eqs (x .value) 0))
 
   backs : Says (S.Back l img i) (C.isBack l i (viewAt img i))
   unfolding seen C.isBack

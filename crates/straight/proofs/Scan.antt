@@ -19,7 +19,7 @@ use Rattle.checker.specs.Refusal.{All}
 use Rattle.checker.specs.Scan.{fileRefusal, wordRefusal}
 use Rattle.checker.proofs.Trials.{of-words}
 use Rattle.checker.proofs.Scan.{given, ladder, Gives, one-before, neither, plain-tried, OfWords, file-refused, words-tried}
-use Rattle.straight.specs.Rules.{isAhead, isExcused, isForward, broken20, isCall0, isBack, differs, broken21}
+use Rattle.straight.specs.Rules.{isAhead, isExcused, isForward, broken20, isSyscall0, isBack, differs, broken21}
 use Rattle.straight.specs.Check.{straightAt, straightAfter, isStraightBroken, straightOf}
 use Rattle.straight.specs.Scan.{straightRefusal, straightTried, straightWords}
 
@@ -120,7 +120,7 @@ module _ (l : Layout) (img : List ℕ) (i : ℕ) where
 -- ---- after the words
 
 module _ (l : Layout) (img : List ℕ) (n : ℕ) where
-  pub bundle-is : {a b c d : ℕ} {s t : Bool} → a ≡ wordAt img (n - 4) → s ≡ isCall0 a → b ≡ wordAt img (n - 3) → c ≡ wordAt img (n - 2)
+  pub bundle-is : {a b c d : ℕ} {s t : Bool} → a ≡ wordAt img (n - 4) → s ≡ isSyscall0 a → b ≡ wordAt img (n - 3) → c ≡ wordAt img (n - 2)
       → t ≡ isBack l (n - 2) (wordView c) → d ≡ wordAt img (n - 1) → not (s && (eqb b 0 && (t && eqb d 0))) ≡ differs l img n
   unfolding differs viewAt
   bundle-is p q r u e w = rw (q, p, r, e, u, w)

@@ -24,7 +24,7 @@ straightTrials l = trialsBy straightAt straightAfter l
 
 -- ---- the verdict
 
--- 8 to 16, 20 and 21, at word i
+-- 8 to 16 and 20, at word i, and 21, which hangs on no word
 unfoldable pub isStraightBroken : Layout → List ℕ → ℕ → ℕ → Bool
 isStraightBroken l img n i =
     cond (eqb n 20) (broken20 l i (viewAt img i)) (cond (eqb n 21) (broken21 l img) (isWordBroken l img n i))

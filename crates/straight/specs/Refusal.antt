@@ -1,4 +1,4 @@
--- What a refusal by the profile says: a rule that is broken at its place, and none before it in document 02's order.
+-- What a refusal by the profile says: a rule that is broken at its place, and none before it in the profile's order.
 use Prim.Native.Nat.{ℕ, _≤_, _<_}
 use mathlib.Core.Path.{_≡_}
 use mathlib.Core.Logic.{_⊎_}
@@ -13,7 +13,7 @@ use Rattle.rules.specs.Not.{Not}
 use Rattle.straight.specs.Check.{straightTrials}
 use Rattle.straight.specs.Straight.{Rule20, Rule21}
 
--- rule n of 8 to 16, 20 and 21, at word i
+-- rule n of 8 to 16 and 20, at word i, and 21, which hangs on no word
 abbrev pub StraightRule : Layout → List ℕ → ℕ → ℕ → Type 0
 StraightRule l img n i = pick (eqb n 20) (Rule20 l img i) (pick (eqb n 21) (Rule21 l img) (WordRule l img n i))
 

@@ -1,5 +1,5 @@
--- The two rules of the straight-through profile as tests, 20 and 21 (document 02, Ticket 2). Straight-through is document 02's word for a module
--- whose branches all lead forward, to a last bundle that exits. img is the image, i a word's index.
+-- The two rules of the straight-through profile as tests, 20 and 21 (document 02, Ticket 2). Straight-through is document 02's word: control flow
+-- goes forward only, but for the jump of the last bundle, whose first word exits. img is the image, i a word's index.
 use Prim.Native.Nat.{ℕ, _+_, _-_, _*_, _/_}
 use mathlib.Core.Bool.{Bool, true, false, not, _&&_, _||_}
 use mathlib.Core.List.{List}
@@ -36,7 +36,7 @@ isExcused l i v t = isJ v && (eqb (i + 2) (l .«code_size» / 4) && isLastBundle
 abbrev pub isForward : Layout → ℕ → View → ℕ → Bool
 isForward l i v t = isAhead l i t || isExcused l i v t
 
--- JR or JALR, or a target that isn't at least two words after it or is past the last bundle's start
+-- JR or JALR, or a target that isn't at least two words after it or is past the last bundle's start, and isn't excused
 unfoldable pub broken20 : Layout → ℕ → View → Bool
 broken20 l i v = v .register || (v .relative || v .region) && not (isForward l i v (targetOf v (l .«code_base» + 4 * i)))
 
@@ -50,33 +50,33 @@ isSyscall Mfc0 = false
 isSyscall Mtc0 = false
 isSyscall Sync = false
 
-abbrev pub isCall : Kind → Bool
-isCall (K.Alu k) = false
-isCall (K.Immediate k) = false
-isCall (K.Shift k) = false
-isCall (K.Multiply k) = false
-isCall (K.Access k) = false
-isCall (K.Branch k) = false
-isCall (K.Trap k) = false
-isCall (K.System k) = isSyscall k
+abbrev pub isSyscallKind : Kind → Bool
+isSyscallKind (K.Alu k) = false
+isSyscallKind (K.Immediate k) = false
+isSyscallKind (K.Shift k) = false
+isSyscallKind (K.Multiply k) = false
+isSyscallKind (K.Access k) = false
+isSyscallKind (K.Branch k) = false
+isSyscallKind (K.Trap k) = false
+isSyscallKind (K.System k) = isSyscall k
 
-abbrev pub calls : Reading → Bool
-calls (Legal x) = isCall (x .kind) && eqb (x .value) 0
-calls NoInstruction = false
+abbrev pub syscalls0 : Reading → Bool
+syscalls0 (Legal x) = isSyscallKind (x .kind) && eqb (x .value) 0
+syscalls0 NoInstruction = false
 
 -- word w is SYSCALL with code 0
-unfoldable pub isCall0 : ℕ → Bool
-isCall0 w = calls (readOf w)
+unfoldable pub isSyscall0 : ℕ → Bool
+isSyscall0 w = syscalls0 (readOf w)
 
 -- at word i, v is J to the last bundle's start
 unfoldable pub isBack : Layout → ℕ → View → Bool
 isBack l i v = isJ v && isLastBundle l (regionOf (l .«code_base» + 4 * i) (v .value))
 
--- the last four of n words are not SYSCALL with code 0, a zero word, J to the first of the four, a zero word
+-- the last four of n words are not SYSCALL with code 0, a zero word, J to the last bundle's start, a zero word
 unfoldable pub differs : Layout → List ℕ → ℕ → Bool
 differs l img n =
     not
-    (isCall0 (wordAt img (n - 4))
+    (isSyscall0 (wordAt img (n - 4))
     && (eqb (wordAt img (n - 3)) 0 && (isBack l (n - 2) (viewAt img (n - 2)) && eqb (wordAt img (n - 1)) 0)))
 
 abbrev pub broken21 : Layout → List ℕ → Bool

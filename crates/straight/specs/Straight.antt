@@ -36,8 +36,8 @@ Rule20 l img i =
 -- ---- the last bundle
 
 -- word i is SYSCALL with code 0
-abbrev pub Call0 : List ℕ → ℕ → Type 0
-Call0 img i = (x : Instruction) × (Stands img i x × ((x .kind ≡ K.System Syscall) × (x .value ≡ 0)))
+abbrev pub Syscall0 : List ℕ → ℕ → Type 0
+Syscall0 img i = (x : Instruction) × (Stands img i x × ((x .kind ≡ K.System Syscall) × (x .value ≡ 0)))
 
 -- word i is J to the last bundle's start
 abbrev pub Back : Layout → List ℕ → ℕ → Type 0
@@ -47,9 +47,9 @@ Back l img i =
 abbrev pub Zero : List ℕ → ℕ → Type 0
 Zero img i = loadOf 4 img (4 * i) ≡ 0
 
--- the last four of n words are SYSCALL with code 0, a zero word, J to the first of the four, a zero word
+-- the last four of n words are SYSCALL with code 0, a zero word, J to the last bundle's start, a zero word
 abbrev pub Ending : Layout → List ℕ → ℕ → Type 0
-Ending l img n = Call0 img (n - 4) × (Zero img (n - 3) × (Back l img (n - 2) × Zero img (n - 1)))
+Ending l img n = Syscall0 img (n - 4) × (Zero img (n - 3) × (Back l img (n - 2) × Zero img (n - 1)))
 
 abbrev pub Rule21 : Layout → List ℕ → Type 0
 Rule21 l img = Ending l img (wordsIn l)

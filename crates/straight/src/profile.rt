@@ -48,8 +48,8 @@ pub fn breaks20(layout: Layout, i: u32, v: View) -> bool
     false
 }
 
-fn is_call0(w: u32) -> bool
-    ensures { λ r. ⌜ r ≡ Spec.isCall0 w ⌝ }
+fn is_syscall0(w: u32) -> bool
+    ensures { λ r. ⌜ r ≡ Spec.isSyscall0 w ⌝ }
 {
     w == SYSCALL_0
 }
@@ -67,7 +67,7 @@ pub fn breaks21(layout: Layout, image: &[u8]) -> bool
     ensures { λ r. ⌜ r ≡ Spec.broken21 layout (now (image .entry)) ⌝ }
 {
     let n = image.len() / 4;
-    let call = is_call0(image::word_at(image, n - 4));
+    let call = is_syscall0(image::word_at(image, n - 4));
     let first = image::word_at(image, n - 3) == 0;
     let back = is_back(layout, (n - 2) as u32, image::word_at(image, n - 2));
     let second = image::word_at(image, n - 1) == 0;

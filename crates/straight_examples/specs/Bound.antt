@@ -14,7 +14,8 @@ use Rattle.confinement.specs.Calls.{Answer, Ran, Resumed, methods}
 use Rattle.termination.specs.Ends.{answersOf, bound}
 use Rattle.examples.specs.Escapes.{Nothing, Row, imageOf, memoryLength, lentOf, brokenAmong, startOf, nop, andi, or27, jr, jump, syscall, usual, wide}
 
--- a module in its start, the rules of the profile that it breaks, and what a run of one step more than the bound answers
+-- a module in its start, the rules of the profile that it breaks, and what a run of one step more than the bound answers; of `Row` all but
+-- `escape` is used
 pub record Timed : Type 0 where
   pub row : Row
   pub answer : Answer
@@ -51,6 +52,8 @@ abbrev pub sharp : List Timed
 sharp =
     shortest
     ∷ timedIn usual (replicate 4 nop ++ ending 80) [] 46 4
+    -- BEQ two words on, which leaves none out
+    ∷ timedIn usual (0x10000001 ∷ nop ∷ nop ∷ nop ∷ ending 80) [] 46 4
     ∷ timedIn wide (replicate 12 nop ++ ending 112) [] 46 12
     ∷ []
 
@@ -66,8 +69,9 @@ longer =
     ∷ runsOn (0x1000FFFF ∷ nop ∷ nop ∷ nop ∷ ending 80) 20 0
     -- BEQ past SYSCALL
     ∷ runsOn (nop ∷ nop ∷ 0x10000002 ∷ nop ∷ ending 80) 20 2
-    -- JR with a fitting guard, to the first word
+    -- JR and JALR 31,8 with a fitting guard, to the first word
     ∷ runsOn (andi 16 ∷ or27 ∷ jr ∷ nop ∷ ending 80) 20 2
+    ∷ runsOn (andi 16 ∷ or27 ∷ 0x0100F809 ∷ nop ∷ ending 80) 20 2
     -- no SYSCALL
     ∷ runsOn (nop ∷ nop ∷ nop ∷ nop ∷ nop ∷ nop ∷ jump 80 ∷ nop ∷ []) 21 noPlace
     ∷ []

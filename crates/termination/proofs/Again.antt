@@ -2,13 +2,13 @@
 use Prim.Native.Nat.{ℕ, zero, suc, _+_, _-_, _*_, _%_, _≤_, _<_}
 use mathlib.Core.Path.{_≡_, refl, sym, ap, subst, _∙_}
 use mathlib.Core.Bool.{Bool, true, false, false≢true}
-use mathlib.Core.Logic.{inl, ⊎-elim}
+use mathlib.Core.Logic.{⊎-elim}
 use mathlib.Core.List.{List, [], _∷_, _++_}
 use native.Mathlib.Omega.{arith}
 use native.Mathlib.Decide.{decLt}
 use lib.Dec.{eqb}
 use borrow.Author.Tests.{eqb-true, eqb-false}
-use Rattle.word.proofs.Choice.{by-test, by-zero}
+use Rattle.word.proofs.Choice.{by-zero}
 use Rattle.isa.specs.declared.kind.Kind.{Kind}
 use Rattle.isa.specs.declared.kind.Instruction.{Instruction}
 use Rattle.isa.specs.declared.reading.Reading.{Reading}
@@ -25,7 +25,7 @@ use Rattle.machine.specs.State.{registerOf, specialOf}
 use Rattle.machine.specs.Apply.{Machine}
 use Rattle.machine.specs.Step.{stepOf}
 use Rattle.machine.specs.Run.{Course, repeatOf, runOf}
-use Rattle.machine.specs.Resume.{isServed, resumedOf, resumeOf}
+use Rattle.machine.specs.Resume.{resumeOf}
 use Rattle.machine.proofs.Steps.{exit-leaves}
 use Rattle.machine.proofs.Runs.{run-keeps, run-repeats, run-running}
 use Rattle.machine.proofs.Resumes.{by-resume}
@@ -34,16 +34,16 @@ use Rattle.straight.specs.Straight.{Zero, Straight}
 use Rattle.confinement.proofs.ByKind.{Leads, Idle}
 use Rattle.confinement.proofs.Areas.{code-bundles}
 use Rattle.confinement.proofs.Invariant.{Inside, stands-once}
-use Rattle.confinement.proofs.Steps.{here, stands-here, unrefused, exit-is}
+use Rattle.confinement.proofs.Steps.{here, stands-here, unrefused}
 use Rattle.confinement.specs.Events.{Write, Event, Step, Run, Resume, Change}
-use Rattle.confinement.specs.Calls.{Lent, lent, Answer, Reply, putState, methods}
-use Rattle.confinement.specs.Lists.{putByte, putAll, stands, changeOf, eventOf}
+use Rattle.confinement.specs.Calls.{Lent, Answer, methods}
+use Rattle.confinement.specs.Lists.{changeOf, eventOf}
 use Rattle.confinement.specs.Demand.{Allowed}
-use Rattle.confinement.proofs.Hosts.{put-counters}
 use Rattle.confinement.proofs.Lists.{run-inside, event-left}
-use Rattle.confinement.proofs.Keeps.{slot-is, step-inside, resumed-inside}
+use Rattle.confinement.proofs.Keeps.{step-inside, resumed-inside}
 use Rattle.termination.specs.Ends.{answersOf, Last, Exits}
-use Rattle.termination.proofs.Forward.{end, Forward, Going, then, next-word, goes, to-word, to-slot, within, step-forward}
+use Rattle.termination.proofs.Forward.{end, Forward, in-order, Going, then, next-word, goes, to-word, to-slot, within, step-forward, resumed, resumed-word, resumed-next, resumed-forward}
+use Rattle.termination.proofs.Bounds.{change-same, served-idle}
 
 -- a zero word is no branch
 zero-onward : (img : List ℕ) (i : ℕ) (x : Instruction) → Zero img i → Stands img i x → flowOf x ≡ Onward
@@ -84,13 +84,8 @@ module _ (l : Layout) (len : ℕ) (img : List ℕ) (ok : Lawful l len img) (stra
   few (jump _ _ _ _) = omega arith
   few (slot _ _ _ _) = omega arith
 
-  -- from word q on, in order
-  in-order : (p q : ℕ) → p ≤ last → q ≡ p + 1 → Early p q
-  in-order p q h e =
-      record { early = h; rising = λ g. (omega (arith, e), omega (arith, e, g)); entered = λ _. e; slot = inl e }
-
   at-last : (p q : ℕ) → p ≡ last → q ≡ last + 1 → Place 0 p q
-  at-last p q e f = early 0 p q (in-order p q (omega (arith, e)) (omega (arith, e, f))) (omega (arith, e))
+  at-last p q e f = early 0 p q (in-order l len img ok straight p q (omega (arith, e)) (omega (arith, e, f))) (omega (arith, e))
 
   module _ (s : State) (m : List ℕ) (v : Inside l len img s m) where
     abbrev i : ℕ
@@ -159,38 +154,36 @@ module _ (l : Layout) (len : ℕ) (img : List ℕ) (ok : Lawful l len img) (stra
     -- ---- a resume, at a word that is no branch
 
     module _ (h : Idle (x .kind)) where
-      abbrev after : Inside l len img (resumedOf s) m
-      after = resumed-inside l len img ok s m v h
-
       abbrev u : ℕ
-      u = after .position .word
+      u = resumed l len img ok straight s m v h .position .word
 
       abbrev w : ℕ
-      w = after .position .following
+      w = resumed l len img ok straight s m v h .position .following
 
-      resumed-word : u ≡ j
-      resumed-word = omega (arith, after .position .counter, v .position .next-counter)
+      u-is : u ≡ j
+      u-is = resumed-word l len img ok straight s m v h
 
-      resumed-next : j + 1 < wordsIn l → w ≡ j + 1
-      resumed-next g = omega (arith, after .position .next-counter, slot-is l len img ok s m v g)
+      w-is : j + 1 < wordsIn l → w ≡ j + 1
+      w-is = resumed-next l len img ok straight s m v h
 
       resumed-place : {k : ℕ} → Place k i j → Somewhere u w
       resumed-place (early k _ _ f e) = elim (decLt i last) [
         | yes g ↦ (
-            let n = resumed-next (omega (arith, f .rising g .1, four)) in
-            (last - j, early (last - j) u w (in-order u w (omega (arith, resumed-word, f .rising g .1)) (omega (arith, resumed-word, n))) (omega (arith, resumed-word, f .rising g .1)))
-            )
+          last - j,
+          early (last - j) u w (resumed-forward l len img ok straight s m v h f g) (omega (arith, u-is, f .rising g .1)),
+        )
         | no g ↦ (
             let d = f .entered (omega (arith, f .early, g)) in
-            let n = resumed-next (omega (arith, d, f .early, four)) in
-            (3, second u w (omega (arith, resumed-word, d, f .early, g)) (omega (arith, n, d, f .early, g)))
+            let n = w-is (omega (arith, d, f .early, four)) in
+            (3, second u w (omega (arith, u-is, d, f .early, g)) (omega (arith, n, d, f .early, g)))
             )
       ]
       resumed-place (second _ _ e f) =
-          let n = resumed-next (omega (arith, f, four)) in (2, jump u w (omega (arith, resumed-word, f)) (omega (arith, n, f)))
-      resumed-place (jump _ _ e f) = absurd (false≢true (sym (ap isRegion (h .onward)) ∙ ap isRegion (jump-flow (omega (arith, e, four)))))
+          let n = w-is (omega (arith, f, four)) in (2, jump u w (omega (arith, u-is, f)) (omega (arith, n, f)))
+      resumed-place (jump _ _ e f) =
+          absurd (false≢true (sym (ap isRegion (h .onward)) ∙ ap isRegion (jump-flow (omega (arith, e, four)))))
       resumed-place (slot _ _ e f) =
-          let n = resumed-next (omega (arith, f, four)) in (0, at-last u w (omega (arith, resumed-word, f)) (omega (arith, n, f)))
+          let n = w-is (omega (arith, f, four)) in (0, at-last u w (omega (arith, u-is, f)) (omega (arith, n, f)))
 
   -- ---- where the module stands between two events
 
@@ -231,34 +224,18 @@ module _ (l : Layout) (len : ℕ) (img : List ℕ) (ok : Lawful l len img) (stra
   -- ---- every event
 
   resume-some : (s : State) (m : List ℕ) → Left s m → Left (resumeOf s m .machine .state) (resumeOf s m .machine .memory)
-  unfolding isServed
   resume-some s m w =
       by-resume (λ o. Left (o .machine .state) (o .machine .memory)) s m
-      (λ e. let h = ⊎-elim (λ z. absurd (false≢true (ap isServed (sym z) ∙ e))) (λ p. p .1) (exit-is l len img ok s m (w .inside)) in
+      (λ e. let h = served-idle l len img ok s m (w .inside) e in
       record { inside = resumed-inside l len img ok s m (w .inside) h; place = resumed-place s m (w .inside) h (w .place .1) })
       (λ _ _. w)
-
-  -- a change by the host leaves the program counters
-  put-same : (xs : List Write) (w : Lent State)
-      → (putAll methods l xs w .state .pc ≡ w .state .pc) × (putAll methods l xs w .state .«next_pc» ≡ w .state .«next_pc»)
-  put-same [] w = (refl, refl)
-  put-same (x ∷ xs) w =
-      let c = put-counters x (w .state) in
-      let r = put-same xs (lent (putState x (w .state)) (putByte x (w .memory))) in
-      (r .0 ∙ c .0, r .1 ∙ c .1 .0)
-
-  change-same : (xs : List Write) (w : Lent State)
-      → (changeOf methods l xs w .left .state .pc ≡ w .state .pc) × (changeOf methods l xs w .left .state .«next_pc» ≡ w .state .«next_pc»)
-  change-same xs w =
-      by-test (λ (r : Reply State). (r .left .state .pc ≡ w .state .pc) × (r .left .state .«next_pc» ≡ w .state .«next_pc»)) (stands methods l xs w)
-      (λ _. put-same xs w) (λ _. (refl, refl))
 
   change-some : (xs : List Write) (w : Lent State) → Left (w .state) (w .memory)
       → Left (changeOf methods l xs w .left .state) (changeOf methods l xs w .left .memory)
   change-some xs w g =
       let v = g .inside in
       let n = event-left l len img ok w v (Change xs) .inside in
-      let c = change-same xs w in
+      let c = change-same l xs w in
       let a : n .position .word ≡ v .position .word = omega (arith, n .position .counter, v .position .counter, c .0) in
       let b : n .position .following ≡ v .position .following = omega (arith, n .position .next-counter, v .position .next-counter, c .1) in
       record { inside = n; place = rw (a, b) (g .place) }

@@ -24,14 +24,15 @@ use Rattle.view.specs.View.{isRelative, isRegion}
 use Rattle.rules.specs.Not.{Not}
 use Rattle.machine.specs.declared.state.State.{State}
 use Rattle.machine.specs.State.{registerOf, specialOf}
+use Rattle.machine.specs.Resume.{resumedOf}
 use Rattle.machine.specs.Step.{effectOf, exitOf, Outcome, tryOf, stepOf}
 use Rattle.checker.specs.Lawful.{Stands, flowOf, Branches, AtTarget, wordsIn, Lawful}
 use Rattle.straight.specs.Straight.{Ahead, Excused, Straight}
-use Rattle.confinement.proofs.ByKind.{Leads}
+use Rattle.confinement.proofs.ByKind.{Leads, Idle}
 use Rattle.confinement.proofs.Areas.{code-bundles}
 use Rattle.confinement.proofs.Invariant.{Inside, stands-once}
 use Rattle.confinement.proofs.Steps.{in-code, here, stands-here, effect-is, step-is}
-use Rattle.confinement.proofs.Keeps.{slot-is, moved, step-inside}
+use Rattle.confinement.proofs.Keeps.{slot-is, moved, step-inside, resumed-inside}
 
 -- a System Call exits, whatever its code and mode
 call-exits : (code status : ℕ) → Not (exitOf (systemCallOf code status) ≡ 0)
@@ -49,6 +50,11 @@ module _ (l : Layout) (len : ℕ) (img : List ℕ) (ok : Lawful l len img) (stra
     pub rising : p < end → (p < q) × (q ≤ end)
     pub entered : p ≡ end → q ≡ p + 1
     pub slot : (q ≡ p + 1) ⊎ ((0 < p) × ((y : Instruction) × (Stands img (p - 1) y × Branches y)))
+
+  -- from word p on, in order
+  pub in-order : (p q : ℕ) → p ≤ end → q ≡ p + 1 → Forward p q
+  in-order p q h e =
+      record { early = h; rising = λ g. (omega (arith, e), omega (arith, e, g)); entered = λ _. e; slot = inl e }
 
   pub record Going (s : State) (m : List ℕ) : Type 0 where
     pub inside : Inside l len img s m
@@ -119,9 +125,7 @@ module _ (l : Layout) (len : ℕ) (img : List ℕ) (ok : Lawful l len img) (stra
 
       -- no branch, or one that is not taken
       onward : after z .«next_pc» ≡ slotOf (s .«next_pc») → Forward j (k z)
-      onward e =
-          let n = to-slot z (omega (arith, within .1)) e in
-          record { early = within .1; rising = λ h. (omega (arith, n), omega (arith, n, h)); entered = λ _. n; slot = inl n }
+      onward e = in-order j (k z) (within .1) (to-slot z (omega (arith, within .1)) e)
 
       -- a branch stands in no slot, so that word i + 1 comes next
       beside : Branches x → j ≡ i + 1
@@ -160,6 +164,24 @@ module _ (l : Layout) (len : ℕ) (img : List ℕ) (ok : Lawful l len img) (stra
 
       pub step-forward : Forward (then z .position .word) (k z)
       step-forward = rw (next-word z) (leads (flowOf x) refl (goes z))
+
+    -- ---- a resume, at a word that is no branch
+
+    module _ (h : Idle (x .kind)) where
+      abbrev pub resumed : Inside l len img (resumedOf s) m
+      resumed = resumed-inside l len img ok s m v h
+
+      pub resumed-word : resumed .position .word ≡ j
+      resumed-word = omega (arith, resumed .position .counter, v .position .next-counter)
+
+      pub resumed-next : j + 1 < wordsIn l → resumed .position .following ≡ j + 1
+      resumed-next g = omega (arith, resumed .position .next-counter, slot-is l len img ok s m v g)
+
+      -- before the last bundle
+      pub resumed-forward : Forward i j → i < end → Forward (resumed .position .word) (resumed .position .following)
+      resumed-forward f g =
+          let w = f .rising g in
+          in-order _ _ (omega (arith, resumed-word, w .1)) (resumed-next (omega (arith, w .1)) ∙ ap (λ (n : ℕ). n + 1) (sym resumed-word))
 
   -- ---- a completed step goes on, to a later word
 
