@@ -14,26 +14,26 @@
 # make bench: speed beside plain C and, where it is installed, Unicorn. make bench BEFORE=FILE: beside another archive too, whose calls have the
 # same arguments and answers.
 SHELL = /bin/bash
-VERSION = 1.2
+VERSION = 1.3
 PREFIX = /usr/local
 CC = cc
 CFLAGS = -O2 -Wall -Wextra -Werror -Iinclude -Ibench
 ARCHIVE = target/libcc100.a
 VERDICT = target/bin/verdict
 # The calls, behind cc100_.
-EXPORTED = check check_placed run step resume read write
+EXPORTED = check check_placed check_straight run step resume read write
 # Each of these is compiled by itself, so that what two calls share is inlined into both, and begins a page, so that its speed does not hang
 # on where a host's linker puts it.
-CALLS = cc100_instruction cc100_step cc100_run cc100_resume cc100_check cc100_check_placed
+CALLS = cc100_instruction cc100_step cc100_run cc100_resume cc100_check cc100_check_placed cc100_check_straight
 PAGE = 4096
 PLAIN = bench/plain_read.c bench/plain_step.c bench/plain_check.c
 TIMED = bench/timing.c $(PLAIN)
 # The benchmark of runs has one column more where Unicorn is installed (Debian's libunicorn-dev).
 UNICORN = $(shell pkg-config --exists unicorn 2> /dev/null && echo -DUNICORN bench/unicorn.c -lunicorn)
-# Another archive's calls, by names of their own.
-OTHER = $(if $(BEFORE),-DBEFORE target/bench/before.a)
+# Another archive's calls, by names of their own; before release 1.3 there was no check for straight-through modules.
+OTHER = $(if $(BEFORE),-DBEFORE $(if $(shell nm $(BEFORE) | grep -w cc100_check_straight),-DBEFORE_STRAIGHT) target/bench/before.a)
 # The samples that have a source.
-ASSEMBLED = m margin
+ASSEMBLED = m margin totals
 EMULATOR = $(wildcard tests/emulator/*.c)
 # The programs whose input and output are stored.
 STORED = vectors steps listing verdict

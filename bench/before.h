@@ -2,11 +2,10 @@
 #ifndef BEFORE_H
 #define BEFORE_H
 
-#include "cc100.h"
+#include "plain.h"
 
 cc100_instruction before_read(uint32_t word);
-cc100_verdict before_check(uint64_t memory_length, uint32_t code_base, uint32_t code_size, uint32_t data_base, uint32_t data_size,
-                           const uint8_t *image, size_t image_length);
+plain_checker before_check, before_check_straight; /* the second only in archives from release 1.3 on (BEFORE_STRAIGHT) */
 cc100_stepped before_step(uint8_t *state, size_t state_length, uint8_t *memory, size_t memory_length);
 cc100_ran before_run(uint8_t *state, size_t state_length, uint8_t *memory, size_t memory_length, uint32_t budget);
 

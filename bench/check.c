@@ -1,5 +1,5 @@
-/* Speed of cc100_check, of the same in plain C and of another archive (BEFORE), on accepted modules of the largest and of the smallest size:
-   medians of interleaved rounds on the same bytes. */
+/* Speed of cc100_check and cc100_check_straight, of the same in plain C and of another archive (BEFORE), on accepted modules of the largest and
+   of the smallest size: medians of interleaved rounds on the same bytes. */
 #include <stdint.h>
 #include <stdio.h>
 
@@ -17,21 +17,31 @@
 #define DATA_BASE 0x20000u
 #define DATA_SIZE 4096u
 
-typedef struct cc100_verdict checker(uint64_t, uint32_t, uint32_t, uint32_t, uint32_t, const uint8_t *, size_t);
-
-static const struct contender {
+struct contender {
     const char *name;
-    checker *check;
-} contenders[] = {
+    plain_checker *check;
+};
+
+static const struct contender checks[] = {
     {"product", cc100_check},
     {"plain C", plain_check},
 #ifdef BEFORE
     {"before", before_check},
 #endif
 };
-#define CONTENDERS (sizeof contenders / sizeof contenders[0])
 
-static uint8_t large[LARGEST], small[SMALLEST];
+static const struct contender straight_checks[] = {
+    {"product", cc100_check_straight},
+    {"plain C", plain_check_straight},
+#ifdef BEFORE_STRAIGHT
+    {"before", before_check_straight},
+#endif
+};
+#define COUNT(array) (sizeof array / sizeof array[0])
+#define MOST_CONTENDERS 3
+
+/* A module of each size and, in the second of each, a straight-through one. */
+static uint8_t large[2][LARGEST], small[2][SMALLEST];
 
 static uint32_t next_random(void)
 {
@@ -87,16 +97,17 @@ static void put_access(uint8_t *at)
     cc100_set_word(at + 8, accesses[i].opcode << 26 | rs(r) | rt(any()) | below(DATA_SIZE / 2 / width) * width);
 }
 
-/* A branch or call to the first word of a bundle, where no guard can be jumped over: mostly near, calls anywhere. */
-static uint32_t direct(uint32_t place)
+/* A branch or call to the first word of a bundle, where no guard can be jumped over: mostly near, calls anywhere, and where the module is
+   straight-through, ahead. */
+static uint32_t direct(uint32_t place, int straight)
 {
-    uint32_t near = place / 16 + below(32), target = below(LARGEST / 16) * 16;
+    uint32_t bundle = place / 16, from = straight ? bundle + 1 : 0, near = bundle + below(32), target = from + below(LARGEST / 16 - from);
     if (below(4) == 0)
-        return 0x0C000000 | (CODE_BASE + target) / 4; /* JAL */
-    target = (near < 16 ? 0 : near - 16) * 16;
-    if (target >= LARGEST)
-        target = LARGEST - 16;
-    return (4 + below(2)) << 26 | rs(any()) | rt(any()) | ((target - place - 4) / 4 & 0xFFFF); /* BEQ, BNE */
+        return 0x0C000000 | (CODE_BASE + 16 * target) / 4; /* JAL */
+    target = straight ? near + 1 : near < 16 ? 0 : near - 16;
+    if (target >= LARGEST / 16)
+        target = LARGEST / 16 - 1;
+    return (4 + below(2)) << 26 | rs(any()) | rt(any()) | ((16 * target - place - 4) / 4 & 0xFFFF); /* BEQ, BNE */
 }
 
 /* JR 31, or JALR 31 and a register, with its guard in three words. */
@@ -107,33 +118,45 @@ static void put_indirect(uint8_t *at)
     cc100_set_word(at + 8, r == 31 ? 0x08 | rs(r) : 0x09 | rs(r) | rd(31));
 }
 
-static void put_bundle(uint32_t place)
+static void put_bundle(uint32_t place, int straight)
 {
-    uint8_t *at = large + place;
+    uint8_t *at = large[straight] + place;
     for (uint32_t i = 0; i < 16; i += 4)
         cc100_set_word(at + i, arithmetic());
     switch (below(16)) {
-    case 0: put_indirect(at); break;
+    case 0:
+        if (!straight)
+            put_indirect(at);
+        break;
     case 1: cc100_set_word(at + 4 * below(4), 0x0000000C | below(8) << 6); break; /* SYSCALL */
-    case 2: case 3: case 4: case 5: cc100_set_word(at + 8, direct(place + 8)); break;
+    case 2: case 3: case 4: case 5: cc100_set_word(at + 8, direct(place + 8, straight)); break;
     case 6: case 7: case 8: case 9: case 10: put_access(at + 4 * below(2)); break;
     default: break;
     }
 }
 
+/* SYSCALL 0, what it does after that, J back to it and its slot: all of the smallest modules. */
+static void put_loop(uint8_t *module, uint32_t place, uint32_t word)
+{
+    const uint32_t loop[] = {0x0000000C, word, 0x08000000 | (CODE_BASE + place) / 4, 0};
+    for (uint32_t i = 0; i < 4; i++)
+        cc100_set_word(module + place + 4 * i, loop[i]);
+}
+
 /* Code such as a compiler writes, and the smallest loop that asks its host for something. */
 static void make_modules(void)
 {
-    static const uint32_t loop[] = {0x0000000C, 0x01495020, 0x08004000, 0x00000000}; /* SYSCALL 0; ADD 10,10,9; J 0x10000; its slot */
-    for (uint32_t place = 0; place < LARGEST; place += 16)
-        put_bundle(place);
-    put_indirect(large + LARGEST - 16);
-    for (uint32_t i = 0; i < SMALLEST; i += 4)
-        cc100_set_word(small + i, loop[i / 4]);
+    for (int straight = 0; straight < 2; straight++)
+        for (uint32_t place = 0; place < LARGEST - 16; place += 16)
+            put_bundle(place, straight);
+    put_indirect(large[0] + LARGEST - 16);
+    put_loop(large[1], LARGEST - 16, 0);
+    put_loop(small[0], 0, 0x01495020); /* ADD 10,10,9 */
+    put_loop(small[1], 0, 0);
 }
 
 /* Checks the module often enough for WORK bytes. What is not accepted counts as wrong. */
-static double timed(checker *check, const uint8_t *module, uint32_t length, uint32_t *wrong)
+static double timed(plain_checker *check, const uint8_t *module, uint32_t length, uint32_t *wrong)
 {
     double from = now();
     for (uint32_t i = 0; i < WORK / length; i++) {
@@ -143,25 +166,34 @@ static double timed(checker *check, const uint8_t *module, uint32_t length, uint
     return now() - from;
 }
 
-/* Speeds are in a million of `unit` bytes. */
-static int compare(const char *name, const uint8_t *module, uint32_t length, const char *unit_name, uint32_t unit)
+/* What is checked, and its speed in a million of `unit` bytes. */
+struct size {
+    const char *name, *unit_name;
+    uint32_t length, unit;
+};
+
+static int compare(const char *what, const struct contender *contenders, size_t count, const uint8_t *module, const struct size *size)
 {
-    double seconds[CONTENDERS][ROUNDS];
-    struct timing timings[CONTENDERS];
+    double seconds[MOST_CONTENDERS][ROUNDS];
+    struct timing timings[MOST_CONTENDERS];
     uint32_t wrong = 0;
-    for (size_t turn = 0; turn < ROUNDS * CONTENDERS; turn++)
-        seconds[turn % CONTENDERS][turn / CONTENDERS] = timed(contenders[turn % CONTENDERS].check, module, length, &wrong);
-    for (size_t i = 0; i < CONTENDERS; i++)
+    for (size_t turn = 0; turn < ROUNDS * count; turn++)
+        seconds[turn % count][turn / count] = timed(contenders[turn % count].check, module, size->length, &wrong);
+    for (size_t i = 0; i < count; i++)
         timings[i] = (struct timing){contenders[i].name, median(seconds[i], ROUNDS)};
-    printf("check, %-25s", name);
-    return report(timings, CONTENDERS, WORK / unit / 1e6, unit_name, wrong != 0);
+    printf("%s, %-25s", what, size->name);
+    return report(timings, count, WORK / size->unit / 1e6, size->unit_name, wrong != 0);
 }
 
 int main(void)
 {
+    static const struct size largest = {"a module of 65,536 bytes", "MB/s", LARGEST, 1};
+    static const struct size smallest = {"a module of 16 bytes", "million modules/s", SMALLEST, SMALLEST};
     int wrong = 0;
     make_modules();
-    wrong |= compare("a module of 65,536 bytes", large, LARGEST, "MB/s", 1);
-    wrong |= compare("a module of 16 bytes", small, SMALLEST, "million modules/s", SMALLEST);
+    wrong |= compare("check", checks, COUNT(checks), large[0], &largest);
+    wrong |= compare("check", checks, COUNT(checks), small[0], &smallest);
+    wrong |= compare("check_straight", straight_checks, COUNT(straight_checks), large[1], &largest);
+    wrong |= compare("check_straight", straight_checks, COUNT(straight_checks), small[1], &smallest);
     return wrong;
 }

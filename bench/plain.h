@@ -8,9 +8,11 @@
 
 struct cc100_instruction plain_read(uint32_t word);
 
-/* What the checker says of a module: the arguments and the verdict of cc100_check. */
-struct cc100_verdict plain_check(uint64_t memory_length, uint32_t code_base, uint32_t code_size, uint32_t data_base, uint32_t data_size,
-                                 const uint8_t *image, size_t image_length);
+/* What the checker says of a module, and of one that is to be straight-through: the arguments and the verdict of cc100_check and of
+   cc100_check_straight. */
+typedef struct cc100_verdict plain_checker(uint64_t memory_length, uint32_t code_base, uint32_t code_size, uint32_t data_base,
+                                           uint32_t data_size, const uint8_t *image, size_t image_length);
+plain_checker plain_check, plain_check_straight;
 
 /* The 41 words of a state, in document 01's order. */
 struct plain_state {

@@ -1,6 +1,7 @@
 /* A checker of modules as one would write it in C for speed: one pass over the words. Of most words only the zero bits and the register
    that is written have to be looked at, and a table says where they are: a switch that every word went through took twice the time, as a
-   processor cannot guess its next arm. The rules that the others can break are tried in their order. */
+   processor cannot guess its next arm. The rules that the others can break are tried in their order. The check of straight-through modules is
+   the same code, compiled once more with what it tries besides. */
 #include "fields.h"
 #include "plain.h"
 
@@ -76,6 +77,7 @@ static const struct entry opcodes[64] = {
 struct module {
     uint32_t code_base, code_size, data_size;
     const uint8_t *image;
+    int straight;
 };
 
 INLINE uint32_t word(const struct module *m, uint32_t i)
@@ -118,36 +120,49 @@ INLINE uint32_t access(const struct module *m, uint32_t i, uint32_t w, uint32_t 
     return CC100_DONE;
 }
 
-/* JR and JALR, tried with 13 and 14. */
+/* JR and JALR, tried with 13, 14 and 20. */
 INLINE uint32_t indirect(const struct module *m, uint32_t i, uint32_t w, int after)
 {
     uint32_t mask;
     if (!guarded(m, i, RS, CODE, &mask) || mask % BUNDLE || mask + BUNDLE > m->code_size)
         return CC100_REFUSED_JUMP;
-    return after ? CC100_REFUSED_SLOT : CC100_DONE;
+    if (after)
+        return CC100_REFUSED_SLOT;
+    return m->straight ? CC100_REFUSED_STRAIGHT : CC100_DONE;
 }
 
-/* A branch or jump to an address, tried with 14 and 15. The last word is outside here: nothing may land on it. */
-INLINE uint32_t direct(const struct module *m, uint32_t target, int after)
+/* Where the last bundle begins, in bytes from the first word, and the J to there. */
+INLINE uint32_t last_bundle(const struct module *m) { return m->code_size - BUNDLE; }
+INLINE uint32_t last_jump(const struct module *m) { return 2u << 26 | (m->code_base + last_bundle(m)) >> 2; }
+
+/* Whether a target, in bytes from the first word, is ahead as a straight-through module needs it. It is inside the code. */
+INLINE int ahead(const struct module *m, uint32_t i, uint32_t w, uint32_t place)
+{
+    int excused = i == m->code_size / 4 - 2 && w == last_jump(m);
+    return (place >= 4 * i + 8 && place <= last_bundle(m)) || excused;
+}
+
+/* A branch or jump to an address, tried with 14, 15 and 20. The last word is outside here: nothing may land on it. */
+INLINE uint32_t direct(const struct module *m, uint32_t i, uint32_t w, uint32_t target, int after)
 {
     uint32_t place = target - m->code_base;
     if (after)
         return CC100_REFUSED_SLOT;
     if (place >= m->code_size - 4 || needs_guard(word(m, place / 4)) || needs_guard(word(m, place / 4 + 1)))
         return CC100_REFUSED_TARGET;
-    return CC100_DONE;
+    return m->straight && !ahead(m, i, w, place) ? CC100_REFUSED_STRAIGHT : CC100_DONE;
 }
 
 INLINE uint32_t slot_address(const struct module *m, uint32_t i) { return m->code_base + 4 * i + 4; }
 
 INLINE uint32_t branch(const struct module *m, uint32_t i, uint32_t w, int after)
 {
-    return direct(m, slot_address(m, i) + ((uint32_t)(int16_t)VALUE << 2), after);
+    return direct(m, i, w, slot_address(m, i) + ((uint32_t)(int16_t)VALUE << 2), after);
 }
 
 INLINE uint32_t jump(const struct module *m, uint32_t i, uint32_t w, int after)
 {
-    return direct(m, (slot_address(m, i) & 0xF0000000) | (w & 0x3FFFFFF) << 2, after);
+    return direct(m, i, w, (slot_address(m, i) & 0xF0000000) | (w & 0x3FFFFFF) << 2, after);
 }
 
 INLINE uint32_t control(uint32_t w)
@@ -158,7 +173,7 @@ INLINE uint32_t control(uint32_t w)
     return CC100_REFUSED_NO_INSTRUCTION;
 }
 
-/* The first of 9 and 11 to 15 that a word of no ordinary form breaks, or 0; or 8, for a word of opcode 16. */
+/* The first of 9, 11 to 15 and 20 that a word of no ordinary form breaks, or 0; or 8, for a word of opcode 16. */
 INLINE uint32_t broken(const struct module *m, uint32_t i, uint32_t w, enum form form, int after)
 {
     switch (form) {
@@ -182,6 +197,11 @@ INLINE struct cc100_verdict made(uint32_t number, uint32_t place)
     return v;
 }
 
+INLINE int ends_straight(const struct module *m, uint32_t count)
+{
+    return word(m, count - 4) == 0x0000000C && word(m, count - 3) == 0 && word(m, count - 2) == last_jump(m) && word(m, count - 1) == 0;
+}
+
 INLINE struct cc100_verdict words(const struct module *m)
 {
     uint32_t count = m->code_size / 4, slot = count, w; /* the slot is the word behind the last branch or jump */
@@ -201,7 +221,9 @@ INLINE struct cc100_verdict words(const struct module *m)
             slot = i + 1;
     }
     w = word(m, count - 2);
-    return w >> 27 == 1 || register_jump(w) ? made(CC100_DONE, CC100_NO_PLACE) : made(CC100_REFUSED_END, count - 2);
+    if (w >> 27 != 1 && !register_jump(w))
+        return made(CC100_REFUSED_END, count - 2);
+    return made(m->straight && !ends_straight(m, count) ? CC100_REFUSED_LAST_BUNDLE : CC100_DONE, CC100_NO_PLACE);
 }
 
 INLINE int sized(uint32_t size, uint32_t smallest) { return size >= smallest && size <= LARGEST && !(size & (size - 1)); }
@@ -212,23 +234,35 @@ INLINE int placed(uint32_t base, uint32_t size, uint64_t memory_length)
     return !(base & (size - 1)) && (uint64_t)base + size <= memory_length;
 }
 
+INLINE struct cc100_verdict checked(const struct module *m, uint64_t memory_length, uint32_t data_base, size_t image_length)
+{
+    if (memory_length > CC100_LONGEST_MEMORY)
+        return made(CC100_REFUSED_MEMORY, CC100_NO_PLACE);
+    if (!sized(m->code_size, SMALLEST_CODE))
+        return made(CC100_REFUSED_CODE_SIZE, CC100_NO_PLACE);
+    if (!sized(m->data_size, SMALLEST_DATA))
+        return made(CC100_REFUSED_DATA_SIZE, CC100_NO_PLACE);
+    if (!placed(m->code_base, m->code_size, memory_length))
+        return made(CC100_REFUSED_CODE_AREA, CC100_NO_PLACE);
+    if (!placed(data_base, m->data_size, memory_length))
+        return made(CC100_REFUSED_DATA_AREA, CC100_NO_PLACE);
+    if (m->code_base < data_base + m->data_size && data_base < m->code_base + m->code_size)
+        return made(CC100_REFUSED_OVERLAP, CC100_NO_PLACE);
+    if (image_length != m->code_size)
+        return made(CC100_REFUSED_IMAGE_LENGTH, CC100_NO_PLACE);
+    return words(m);
+}
+
 struct cc100_verdict plain_check(uint64_t memory_length, uint32_t code_base, uint32_t code_size, uint32_t data_base, uint32_t data_size,
                                  const uint8_t *image, size_t image_length)
 {
-    struct module m = {code_base, code_size, data_size, image};
-    if (memory_length > CC100_LONGEST_MEMORY)
-        return made(CC100_REFUSED_MEMORY, CC100_NO_PLACE);
-    if (!sized(code_size, SMALLEST_CODE))
-        return made(CC100_REFUSED_CODE_SIZE, CC100_NO_PLACE);
-    if (!sized(data_size, SMALLEST_DATA))
-        return made(CC100_REFUSED_DATA_SIZE, CC100_NO_PLACE);
-    if (!placed(code_base, code_size, memory_length))
-        return made(CC100_REFUSED_CODE_AREA, CC100_NO_PLACE);
-    if (!placed(data_base, data_size, memory_length))
-        return made(CC100_REFUSED_DATA_AREA, CC100_NO_PLACE);
-    if (code_base < data_base + data_size && data_base < code_base + code_size)
-        return made(CC100_REFUSED_OVERLAP, CC100_NO_PLACE);
-    if (image_length != code_size)
-        return made(CC100_REFUSED_IMAGE_LENGTH, CC100_NO_PLACE);
-    return words(&m);
+    struct module m = {code_base, code_size, data_size, image, 0};
+    return checked(&m, memory_length, data_base, image_length);
+}
+
+struct cc100_verdict plain_check_straight(uint64_t memory_length, uint32_t code_base, uint32_t code_size, uint32_t data_base,
+                                          uint32_t data_size, const uint8_t *image, size_t image_length)
+{
+    struct module m = {code_base, code_size, data_size, image, 1};
+    return checked(&m, memory_length, data_base, image_length);
 }

@@ -1,5 +1,5 @@
 /* What the subcommands of cc100 share. Nothing here decides what a call of cc100.h decides: what a word is comes from cc100_read, what a
-   module may do from cc100_check, and what it does from cc100_run and cc100_step. */
+   module may do from cc100_check and cc100_check_straight, and what it does from cc100_run and cc100_step. */
 #ifndef COMMAND_H
 #define COMMAND_H
 
@@ -30,6 +30,7 @@ struct options {
     struct layout layout;
     bool code_size_given; /* else it is the module's length */
     bool json, steps;
+    bool straight; /* the module is to be straight-through */
     const char *rows, *figures; /* files, or NULL */
     uint64_t budget;            /* steps of a whole run */
     uint64_t number;            /* that is asked for */
@@ -78,6 +79,10 @@ uint32_t module_word(const struct module *m, uint32_t index);
 /* What the checker says of a module, with its length as the code size where no other is given; *l is the layout that it was asked about. */
 cc100_verdict check_module(const struct module *m, const struct options *o, struct layout *l);
 
+/* The index of the word at which a module's last bundle starts. A straight-through module completes at most so many steps before its first
+   exit. */
+uint32_t last_bundle(const struct layout *l);
+
 /* sentences.c: what the numbers mean, the one place for it. docs/REFUSALS.md, README.md and the manual pages are compared with it. */
 struct refusal {
     const char *meaning, *example, *change;
@@ -86,7 +91,7 @@ struct refusal {
 struct exit_name {
     const char *name, *when;
 };
-#define LAST_REFUSAL 19u
+#define LAST_REFUSAL 21u
 #define FIRST_EXIT CC100_EXIT_INTEGER_OVERFLOW
 #define LAST_EXIT CC100_EXIT_STOP_CORES
 const struct refusal *refusal_of(uint32_t number); /* NULL where there is none */
@@ -121,7 +126,7 @@ uint32_t target_index(const struct excerpt *e, uint32_t index);
 /* rows.c: what a run hands to a module. The first two give the number of rows or figures, or -1, which is said. */
 int read_rows(const char *path, uint8_t *data, uint32_t data_size);
 int read_figures(const char *path, uint32_t *figures, uint32_t most);
-void print_rows(const uint8_t *data, int rows, int32_t total, int32_t rate);
+void print_rows(const uint8_t *data, int rows, int32_t total, const int32_t *rate); /* the rate is NULL where there is none */
 
 /* json.c: a text in quotation marks, with all that JSON does not take escaped; bytes that are no UTF-8 become U+FFFD. */
 void print_json(const char *text);

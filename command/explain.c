@@ -54,11 +54,28 @@ static void print_target(const struct excerpt *e)
     print_lines(e, target - target % BUNDLE, excerpt_to(last));
 }
 
+/* The words that are shown, from one to before another; none where both are 0. The last bundle has no place, and is shown where it is refused. */
+struct span {
+    uint32_t from, to;
+};
+
+static struct span shown(const struct excerpt *e, uint32_t number)
+{
+    if (number == CC100_REFUSED_LAST_BUNDLE)
+        return (struct span){last_bundle(&e->layout), last_bundle(&e->layout) + BUNDLE};
+    if (e->arrow == CC100_NO_PLACE)
+        return (struct span){0, 0};
+    return (struct span){excerpt_from(e->arrow), excerpt_to(e->arrow)};
+}
+
 static void print_words(const struct excerpt *e, uint32_t number)
 {
+    struct span s = shown(e, number);
+    if (s.to == 0)
+        return;
     printf("\n");
-    print_lines(e, excerpt_from(e->arrow), excerpt_to(e->arrow));
-    if (number == CC100_REFUSED_TARGET)
+    print_lines(e, s.from, s.to);
+    if (number == CC100_REFUSED_TARGET || number == CC100_REFUSED_STRAIGHT)
         print_target(e);
 }
 
@@ -70,17 +87,27 @@ static void explain_refused(const struct excerpt *e, cc100_verdict v)
         printf(" at word %" PRIu32, v.place);
     printf("\n\n");
     print_wrapped("", r->meaning);
-    if (v.place != CC100_NO_PLACE)
-        print_words(e, v.number);
+    print_words(e, v.number);
     print_sentences(r);
     print_layout(e);
 }
 
-static void explain_accepted(const struct excerpt *e)
+static void explain_straight(const struct excerpt *e)
+{
+    char text[256];
+    snprintf(text, sizeof text, "It is straight-through: its first exit comes after at most %" PRIu32 " completed steps, four fewer than it has "
+             "words. That is proved of every module that is accepted as such.", last_bundle(&e->layout));
+    printf("\n");
+    print_wrapped("", text);
+}
+
+static void explain_accepted(const struct excerpt *e, bool straight)
 {
     printf("%s is accepted, %" PRIu32 " words\n\n", name_of(e->module->path), e->module->length / 4);
     print_wrapped("", "Started as a host has to start it, it stays in its own code and data, and its run ends only in Integer Overflow, "
                       "System Call, Breakpoint or Trap. That is proved of every module that is accepted.");
+    if (straight)
+        explain_straight(e);
     print_layout(e);
 }
 
@@ -103,26 +130,35 @@ static void print_word_object(const struct excerpt *e, uint32_t index)
     char line[64];
     uint32_t address = e->layout.code_base + 4 * index, word = module_word(e->module, index);
     struct text t = text_of(word, address);
-    printf("%s{\"index\":%" PRIu32, index == excerpt_from(e->arrow) ? "" : ",", index);
+    printf("{\"index\":%" PRIu32, index);
     printf(",\"address\":%" PRIu32 ",\"word\":%" PRIu32, address, word);
     snprintf(line, sizeof line, "%s%s%s", t.name, *t.operands ? " " : "", t.operands);
     print_named("instruction", line);
     printf("}");
 }
 
-static void print_object(const struct excerpt *e, cc100_verdict v)
+static void print_around(const struct excerpt *e, struct span s)
+{
+    printf(",\"around\":[");
+    for (uint32_t i = s.from; i < s.to; i++) {
+        printf("%s", i == s.from ? "" : ",");
+        print_word_object(e, i);
+    }
+    printf("]");
+}
+
+static void print_object(const struct excerpt *e, cc100_verdict v, bool straight)
 {
     const struct layout *l = &e->layout;
+    struct span s = shown(e, v.number);
     printf("{");
     print_verdict_members(e->module->path, v, e->module->length / 4);
     if (v.number != CC100_DONE)
         print_sentences_object(refusal_of(v.number));
-    if (e->arrow != CC100_NO_PLACE) {
-        printf(",\"around\":[");
-        for (uint32_t i = excerpt_from(e->arrow); i < excerpt_to(e->arrow); i++)
-            print_word_object(e, i);
-        printf("]");
-    }
+    else if (straight)
+        printf(",\"most_steps\":%" PRIu32, last_bundle(l));
+    if (s.to != 0)
+        print_around(e, s);
     printf(",\"memory_length\":%" PRIu64 ",\"code_base\":%" PRIu32 ",\"code_size\":%" PRIu32, l->memory_length, l->code_base, l->code_size);
     printf(",\"data_base\":%" PRIu32 ",\"data_size\":%" PRIu32 "}\n", l->data_base, l->data_size);
 }
@@ -137,9 +173,9 @@ static enum status explain_file(const struct options *o)
     e.arrow = v.place;
     e.cut_off = m.length > LARGEST_CODE && !o->code_size_given;
     if (o->json)
-        print_object(&e, v);
+        print_object(&e, v, o->straight);
     else if (v.number == CC100_DONE)
-        explain_accepted(&e);
+        explain_accepted(&e, o->straight);
     else
         explain_refused(&e, v);
     return v.number == CC100_DONE ? STATUS_DONE : STATUS_REFUSED;

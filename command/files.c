@@ -75,5 +75,9 @@ cc100_verdict check_module(const struct module *m, const struct options *o, stru
     *l = o->layout;
     if (!o->code_size_given)
         l->code_size = m->length;
-    return cc100_check(l->memory_length, l->code_base, l->code_size, l->data_base, l->data_size, m->image, m->length);
+    cc100_verdict (*check)(uint64_t, uint32_t, uint32_t, uint32_t, uint32_t, const uint8_t *, size_t) =
+        o->straight ? cc100_check_straight : cc100_check;
+    return check(l->memory_length, l->code_base, l->code_size, l->data_base, l->data_size, m->image, m->length);
 }
+
+uint32_t last_bundle(const struct layout *l) { return l->code_size / 4 - 4; }

@@ -24,11 +24,12 @@ struct row {
 };
 
 /* The numbers of these rows are what the parser answers. */
-enum { HELP, JSON, NUMBER, ROWS, FIGURES, BUDGETED, STEPS, LENGTH, CODE_AT, CODE_LENGTH, DATA_AT, DATA_LENGTH, OPTIONS };
+enum { HELP, JSON, STRAIGHT, NUMBER, ROWS, FIGURES, BUDGETED, STEPS, LENGTH, CODE_AT, CODE_LENGTH, DATA_AT, DATA_LENGTH, OPTIONS };
 
 static const struct row rows[OPTIONS] = {
     [HELP] = {"help", FLAG, MODULE, "", "says this"},
     [JSON] = {"json", FLAG, CHECK | EXPLAIN | RUN, "", "prints one JSON object a line"},
+    [STRAIGHT] = {"straight", FLAG, CHECK | EXPLAIN | RUN, "", "takes only straight-through modules, known to finish"},
     [NUMBER] = {"number", WORD, EXPLAIN, "N", "explains a number alone, of a refusal or an exit"},
     [ROWS] = {"rows", FILE_NAME, RUN, "FILE", "a line of quantity, cost and price for each row"},
     [FIGURES] = {"figures", FILE_NAME, RUN, "FILE", "whole numbers that the module can ask for"},
@@ -100,6 +101,7 @@ static void put(struct options *o, int row, uint64_t number, const char *text)
 {
     switch (row) {
     case JSON: o->json = true; break;
+    case STRAIGHT: o->straight = true; break;
     case NUMBER: o->number = number, o->number_given = true; break;
     case ROWS: o->rows = text; break;
     case FIGURES: o->figures = text; break;

@@ -114,13 +114,21 @@ int read_figures(const char *path, uint32_t *figures, uint32_t most)
     return read_lines(path, &r, take_figures);
 }
 
-void print_rows(const uint8_t *data, int rows, int32_t total, int32_t rate)
+/* The sign stands by itself: the whole percents of -0.50 have none. */
+static void print_rate(int32_t rate)
+{
+    const char *sign = rate < 0 ? "-" : "";
+    int64_t hundredths = rate < 0 ? -(int64_t)rate : rate;
+    printf(", rate %s%" PRId64 ".%02" PRId64 " %%", sign, hundredths / 100, hundredths % 100);
+}
+
+void print_rows(const uint8_t *data, int rows, int32_t total, const int32_t *rate)
 {
     printf("%12s%12s%12s%12s\n", "quantity", "cost", "price", "margin");
     for (uint32_t i = 0; i < ROW_LENGTH * (uint32_t)rows; i += 4)
         printf("%12" PRId32 "%s", (int32_t)cc100_get_word(data + i), i % ROW_LENGTH == ROW_LENGTH - 4 ? "\n" : "");
-    /* The sign stands by itself: the whole percents of -0.50 have none. */
-    const char *sign = rate < 0 ? "-" : "";
-    int64_t hundredths = rate < 0 ? -(int64_t)rate : rate;
-    printf("total margin %" PRId32 ", rate %s%" PRId64 ".%02" PRId64 " %%\n", total, sign, hundredths / 100, hundredths % 100);
+    printf("total margin %" PRId32, total);
+    if (rate)
+        print_rate(*rate);
+    printf("\n");
 }

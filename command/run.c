@@ -8,6 +8,9 @@
    says that the report is complete, with the total of the margins in register 8 and their rate in register 9. The table and both are
    printed, or, where there are no rows, the words of the data area.
 
+   The last bundle of a straight-through module (--straight) begins with SYSCALL with code 0. There it says that the report is complete, with the
+   total in register 8 and no rate: such a module has one total per row, and is known to finish.
+
    Anything else ends the run, and the last access to the data area is printed, so that one sees which cell the module was at. An Integer
    Overflow, a Breakpoint and a Trap could be resumed, but a report is read for its figures, and one that went on past an overflow would lack
    one without saying so. */
@@ -72,6 +75,9 @@ static void print_data(const struct run *r, const char *first, const char *betwe
         printf("%s%" PRIu32, i == 0 ? first : i % WORDS_A_LINE ? between : line, cc100_get_word(data_of(r) + 4 * i));
 }
 
+/* The code of the SYSCALL that the run is at. */
+static uint32_t present_code(const struct run *r) { return cc100_read(present_word(&r->machine)).value; }
+
 /* The words of a row. */
 static const char *const cells[] = {"quantity", "cost", "price", "margin"};
 
@@ -81,7 +87,9 @@ static void print_rows_object(const struct run *r)
     for (uint32_t i = 0; i < 4u * (uint32_t)r->rows; i++)
         printf("%s\"%s\":%" PRId32 "%s", i == 0 ? "{" : i % 4 ? "," : ",{", cells[i % 4], (int32_t)cc100_get_word(data_of(r) + 4 * i),
                i % 4 == 3 ? "}" : "");
-    printf("],\"total\":%" PRId32 ",\"rate\":%" PRId32, (int32_t)register_of(r, TOTAL_REGISTER), (int32_t)register_of(r, RATE_REGISTER));
+    printf("],\"total\":%" PRId32, (int32_t)register_of(r, TOTAL_REGISTER));
+    if (present_code(r) == REPORT_COMPLETE)
+        printf(",\"rate\":%" PRId32, (int32_t)register_of(r, RATE_REGISTER));
 }
 
 /* The last line of a run, for a script. */
@@ -92,7 +100,7 @@ static void print_end_object(const struct run *r, uint32_t number, bool complete
            complete ? "true" : "false", r->machine.steps, present_address(&r->machine), number);
     printf(x ? "\"%s\"" : "null", x ? x->name : "");
     if (number == CC100_EXIT_SYSTEM_CALL)
-        printf(",\"code\":%" PRIu32, cc100_read(present_word(&r->machine)).value);
+        printf(",\"code\":%" PRIu32, present_code(r));
     print_access_member(&r->machine, r->machine.last);
     if (complete && table) {
         print_rows_object(r);
@@ -103,10 +111,20 @@ static void print_end_object(const struct run *r, uint32_t number, bool complete
     printf("}\n");
 }
 
-/* Where the run stands, before what is said of it. */
+/* Where the run stands, before what is said of it. The bound of a straight-through module is that of all steps until it is resumed in its last
+   bundle, where a run ends, and so also past figures that it is given. */
 static void print_place(const struct run *r)
 {
-    printf("after %" PRIu64 " steps, at 0x%" PRIx32 ": ", r->machine.steps, present_address(&r->machine));
+    printf("after %" PRIu64 " steps", r->machine.steps);
+    if (r->options->straight)
+        printf(" of at most %" PRIu32, last_bundle(&r->layout));
+    printf(", at 0x%" PRIx32 ": ", present_address(&r->machine));
+}
+
+static void print_table(const struct run *r)
+{
+    int32_t rate = (int32_t)register_of(r, RATE_REGISTER);
+    print_rows(data_of(r), r->rows, (int32_t)register_of(r, TOTAL_REGISTER), present_code(r) == REPORT_COMPLETE ? &rate : NULL);
 }
 
 /* The report is complete. Where the module itself says so there may be a table. */
@@ -119,7 +137,7 @@ static enum status say_complete(const struct run *r, const char *how, bool table
     print_place(r);
     printf("%sthe report is complete\n", how);
     if (table) {
-        print_rows(data_of(r), r->rows, (int32_t)register_of(r, TOTAL_REGISTER), (int32_t)register_of(r, RATE_REGISTER));
+        print_table(r);
     } else {
         print_data(r, "data: ", " ", "\n      ");
         printf("\n");
@@ -155,7 +173,7 @@ static enum status say_stopped(const struct run *r, uint32_t number)
     if (number == CC100_DONE)
         printf("still running, and its budget is spent");
     else if (number == CC100_EXIT_SYSTEM_CALL)
-        printf("System Call %" PRIu32 ", which is not served here", cc100_read(present_word(&r->machine)).value);
+        printf("System Call %" PRIu32 ", which is not served here", present_code(r));
     else
         printf("%s", x ? x->name : "a number that is not known here");
     printf("; the report is not complete\n");
@@ -180,14 +198,20 @@ static uint32_t give_figure(struct run *r)
     return cc100_resume(r->machine.state, sizeof r->machine.state, r->machine.memory, r->machine.memory_length);
 }
 
+/* Whether the run is at the SYSCALL that ends a straight-through module. */
+static bool at_last_bundle(const struct run *r)
+{
+    return r->options->straight && present_address(&r->machine) == r->layout.code_base + 4 * last_bundle(&r->layout);
+}
+
 /* Runs the module to its end. */
 static enum status serve(struct run *r)
 {
     for (;;) {
         uint32_t number = advance(&r->machine, r->options);
         bool call = number == CC100_EXIT_SYSTEM_CALL;
-        uint32_t code = call ? cc100_read(present_word(&r->machine)).value : 0;
-        if (call && code == REPORT_COMPLETE)
+        uint32_t code = call ? present_code(r) : 0;
+        if (call && (code == REPORT_COMPLETE || at_last_bundle(r)))
             return say_complete(r, "", r->rows > 0);
         if (!call || code != NEXT_FIGURE)
             return say_stopped(r, number);
@@ -218,7 +242,10 @@ static void say_started(const struct run *r, const struct module *m)
         printf("{\"event\":\"start\",\"file\":");
         print_json(m->path);
         printf(",\"words\":%" PRIu32 ",\"code_base\":%" PRIu32, words, l->code_base);
-        printf(",\"data_base\":%" PRIu32 ",\"data_size\":%" PRIu32 "}\n", l->data_base, l->data_size);
+        printf(",\"data_base\":%" PRIu32 ",\"data_size\":%" PRIu32, l->data_base, l->data_size);
+        if (r->options->straight)
+            printf(",\"most_steps\":%" PRIu32, last_bundle(l));
+        printf("}\n");
     } else {
         printf("%" PRIu32 " words of code at 0x%" PRIx32 ", ", words, l->code_base);
         printf("%" PRIu32 " bytes of data at 0x%" PRIx32 "\n", l->data_size, l->data_base);
@@ -264,8 +291,9 @@ const struct subcommand run_command = {
     "Checks a module and, where it is accepted, runs it from its first word with the\n"
     "rows in its data area. SYSCALL 0 asks for the next figure: its place goes into\n"
     "register 8 and the figure into register 9. SYSCALL 1 says that the report is\n"
-    "complete, with the total in register 8 and the rate in register 9. Anything else\n"
-    "ends the run, and the report is not complete; the last access to the data area is\n"
-    "then printed.\n",
+    "complete, with the total in register 8 and the rate in register 9. With --straight\n"
+    "the SYSCALL 0 of the last bundle says so too, with the total in register 8 and no\n"
+    "rate. Anything else ends the run, and the report is not complete; the last access\n"
+    "to the data area is then printed.\n",
     1, 1, run,
 };

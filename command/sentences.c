@@ -48,6 +48,14 @@ static const struct refusal refusals[LAST_REFUSAL] = {
      "Host: see the fields in docs/INSTRUCTIONS.md; a kind is 1 to 72, and a field that it does not have is 0.", HOST},
     {"A resume where the step does not end in 40, 46, 47 or 48.", "PC at word 0x00000000",
      "Host: resume only after an Integer Overflow, System Call, Breakpoint or Trap.", HOST},
+    {"A straight-through module was asked for, and the word is JR or JALR, or a branch, J or JAL that leads less than two words ahead or past "
+     "the start of the last bundle.", "0x1000FFFF",
+     "Compiler: write no JR and no JALR, and lead every branch at least two words ahead and at most to the start of the last bundle. A report "
+     "that loops, or returns from a call, cannot be straight-through, and may still be accepted where that is not asked for.", COMPILER},
+    {"A straight-through module was asked for, and its last bundle is not SYSCALL with code 0, a zero word, J to the bundle's own start and a "
+     "zero word.", "0x0000004C at word 4",
+     "Compiler: end the module with that bundle, and fill it up before it. Without such an end it may still be accepted where a "
+     "straight-through module is not asked for.", COMPILER},
 };
 
 static const struct exit_name exits[LAST_EXIT - FIRST_EXIT + 1] = {

@@ -81,14 +81,34 @@ struct module {
 };
 extern const struct layout usual; /* that of document 01's examples */
 
-/* A module of that layout that does nothing and is accepted: zeros, and in the last word but one a jump to the first. */
+/* A module of that layout that does nothing and is accepted: zeros, and in the last word but one a jump to the first; and a straight-through one:
+   zeros, and the last bundle. */
 void make_quiet(struct module *m, struct layout l);
+void make_straight(struct module *m, struct layout l);
 void put_guard(struct module *m, uint32_t at, uint32_t r, uint32_t mask, uint32_t base); /* ANDI R,4,mask and OR R,R,base, two words */
 
 /* The module is checked by the calls, as an image and placed, and by plain C: in pages that can only be read, with nothing to touch behind
    them. */
 void expect_verdict(const struct module *m, uint32_t number, uint32_t place);
 void expect_accepted(const struct module *m);
+void expect_straight(const struct module *m, uint32_t number, uint32_t place); /* by the calls for straight-through modules */
+
+/* The table that the samples work on: four rows of four words, in the data area of the usual layout. */
+#define ROWS 4u
+#define ROW_LENGTH 16u
+struct row {
+    int64_t quantity, cost, price;
+};
+void random_rows(struct row *rows);
+void put_rows(struct machine *m, const struct row *rows); /* the fourth words are random: a module has to write them */
+int fits(int64_t number);                                 /* in 32 bits, as a signed number */
+
+/* Places the module of a file in memory of the usual length, and gives its length in bytes. */
+uint32_t place_sample(struct machine *m, const char *path);
+/* Starts a module of the usual layout, as a host has to; what that leaves open is random. */
+void start_module(struct machine *m);
+/* What a module works with is its own affair: these places of the state are wanted as they came. */
+void want_as_came(struct machine *m, const uint32_t *places, size_t count);
 
 /* Room of whole pages between pages that cannot be touched. */
 uint8_t *page(size_t size);
@@ -106,7 +126,10 @@ void test_pages(void);
 void test_cases(void);
 void test_check(void);
 void test_words(void);
+void test_straight(void);
+void test_finish(void);
 void test_margin(void);
+void test_totals(void);
 void test_verdict(const char *program);
 
 #endif

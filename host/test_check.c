@@ -55,7 +55,7 @@ static void each_example(void)
     }
 }
 
-/* A layout, the length of its image, and what is said of a module that does nothing. */
+/* A layout, the length of its image, and what is said of a module that does nothing, also as a straight-through one. */
 struct limit {
     struct layout layout;
     size_t length;
@@ -141,7 +141,7 @@ static const struct limit limits[] = {
     {{196608, 0x10000, 32, 0x10000, 64}, 28, 6},
 };
 
-/* Sizes that are refused have no last word but one that a jump could be put in: the layout is put in afterwards. */
+/* Sizes that are refused have no last bundle that could be put in: the layout is put in afterwards. */
 static void expect_layout(const struct layout *l, size_t length, uint32_t number)
 {
     struct layout right = usual;
@@ -149,12 +149,13 @@ static void expect_layout(const struct layout *l, size_t length, uint32_t number
         right.code_base = l->code_base;
         right.code_size = l->code_size;
     }
-    make_quiet(&m, right);
+    make_straight(&m, right);
     m.layout = *l;
     m.length = length;
     calling("memory of %" PRIu64 " bytes, code 0x%" PRIx32 " size %" PRIu32 ", data 0x%" PRIx32 " size %" PRIu32 ", image of %zu",
             l->memory_length, l->code_base, l->code_size, l->data_base, l->data_size, length);
     expect_verdict(&m, number, CC100_NO_PLACE);
+    expect_straight(&m, number, CC100_NO_PLACE);
 }
 
 static void each_limit(void)

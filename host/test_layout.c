@@ -15,6 +15,14 @@ void make_quiet(struct module *m, struct layout l)
     m->words[l.code_size / 4 - 2] = word_of(J, 0, 0, 0, l.code_base / 4);
 }
 
+void make_straight(struct module *m, struct layout l)
+{
+    uint32_t last = l.code_size / 4 - 4;
+    make_quiet(m, l);
+    m->words[last] = word_of(SYSCALL, 0, 0, 0, 0);
+    m->words[last + 2] = word_of(J, 0, 0, 0, l.code_base / 4 + last);
+}
+
 void put_guard(struct module *m, uint32_t at, uint32_t r, uint32_t mask, uint32_t base)
 {
     m->words[at] = word_of(ANDI, 4, r, 0, mask);
@@ -51,18 +59,21 @@ static void open_room(struct room *r, size_t length)
 
 static void close_room(struct room *r) { mprotect(r->bytes, r->size, PROT_READ); }
 
-static void check_image(const struct module *m, cc100_verdict expected)
+/* Gives the module's image. */
+static const uint8_t *closed_image(const struct module *m)
 {
     static struct room room;
-    const struct layout *l = &m->layout;
     open_room(&room, sizeof m->words);
     uint8_t *image = room.bytes + room.size - m->length;
     write_image(m, image);
     close_room(&room);
-    expect_same("number of cc100_check", "place of cc100_check", expected,
-                cc100_check(l->memory_length, l->code_base, l->code_size, l->data_base, l->data_size, image, m->length));
-    expect_same("number of plain_check", "place of plain_check", expected,
-                plain_check(l->memory_length, l->code_base, l->code_size, l->data_base, l->data_size, image, m->length));
+    return image;
+}
+
+static cc100_verdict checked(plain_checker *check, const struct module *m, const uint8_t *image)
+{
+    const struct layout *l = &m->layout;
+    return check(l->memory_length, l->code_base, l->code_size, l->data_base, l->data_size, image, m->length);
 }
 
 /* What else is in memory is what other modules left there. A layout that is refused may have its code area outside memory. */
@@ -83,9 +94,19 @@ static void check_placed(const struct module *m, cc100_verdict expected)
 void expect_verdict(const struct module *m, uint32_t number, uint32_t place)
 {
     cc100_verdict expected = {number, place};
-    check_image(m, expected);
+    const uint8_t *image = closed_image(m);
+    expect_same("number of cc100_check", "place of cc100_check", expected, checked(cc100_check, m, image));
+    expect_same("number of plain_check", "place of plain_check", expected, checked(plain_check, m, image));
     if (m->layout.memory_length <= CC100_LONGEST_MEMORY + 1 && number != CC100_REFUSED_IMAGE_LENGTH)
         check_placed(m, expected);
 }
 
 void expect_accepted(const struct module *m) { expect_verdict(m, CC100_DONE, CC100_NO_PLACE); }
+
+void expect_straight(const struct module *m, uint32_t number, uint32_t place)
+{
+    cc100_verdict expected = {number, place};
+    const uint8_t *image = closed_image(m);
+    expect_same("number of cc100_check_straight", "place of cc100_check_straight", expected, checked(cc100_check_straight, m, image));
+    expect_same("number of plain_check_straight", "place of plain_check_straight", expected, checked(plain_check_straight, m, image));
+}

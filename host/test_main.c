@@ -87,7 +87,10 @@ int main(int count, char **arguments)
     test_cases();
     test_check();
     test_words();
+    test_straight();
+    test_finish();
     test_margin();
+    test_totals();
     test_verdict(arguments[1]);
     printf("host tests: %lu checks, %lu failed\n", checks, failures);
     return failures != 0;

@@ -1,28 +1,16 @@
 /* samples/margin.module beside the same calculation in 64-bit C: tables at the limits, and random ones from a fixed seed. */
-#include <stdio.h>
-#include <stdlib.h>
-
 #include "test.h"
 
 #define MODULE "samples/margin.module"
-#define LARGEST_CODE 65536u
-#define ROWS 4u
-#define ROW_LENGTH 16u
 #define TABLES 5000
 #define BUDGET 1000u /* steps; a whole report takes 334 */
 #define COMPLETE 0x0000004Cu /* SYSCALL 1 */
 #define TOTAL 8u             /* the registers of the report's figures */
 #define RATE 9u
 
-struct row {
-    int64_t quantity, cost, price;
-};
-
 struct report {
     int64_t total, sales, rate;
 };
-
-static int fits(int64_t number) { return number >= INT32_MIN && number <= INT32_MAX; }
 
 /* Gives the exit at the first number that does not fit, or CC100_DONE. The margin is wanted in its row. */
 static uint32_t add_row(struct machine *m, struct report *r, const struct row *row, uint32_t place)
@@ -69,40 +57,12 @@ static uint32_t calculate(struct machine *m, struct report *r, const struct row 
     return number == CC100_DONE ? CC100_EXIT_SYSTEM_CALL : number;
 }
 
-/* The margins are not 0 to begin with: the module has to write them. */
-static void put_rows(struct machine *m, const struct row *rows)
-{
-    for (uint32_t i = 0; i < ROWS; i++) {
-        uint32_t address = usual.data_base + ROW_LENGTH * i;
-        put_memory(m, address, (uint32_t)rows[i].quantity);
-        put_memory(m, address + 4, (uint32_t)rows[i].cost);
-        put_memory(m, address + 8, (uint32_t)rows[i].price);
-        put_memory(m, address + 12, next_random());
-    }
-}
-
-/* What a start leaves open is random. */
-static void start(struct machine *m)
-{
-    for (uint32_t place = CC100_REGISTER(1); place <= CC100_LO; place += 4)
-        put_state(m, place, next_random());
-    put_state(m, CC100_REGISTER(DATA_REGISTER), usual.data_base);
-    put_state(m, CC100_REGISTER(CODE_REGISTER), usual.code_base);
-    put_state(m, CC100_STATUS, CC100_STATUS_USER);
-    put_pc(m, usual.code_base);
-}
-
-/* What the module works with is its own affair, and is wanted as it came. All else in the state is wanted as it was. */
-static void want_worked(struct machine *m)
-{
-    static const uint32_t worked[] = {
-        CC100_REGISTER(2), CC100_REGISTER(4), CC100_REGISTER(5), CC100_REGISTER(6), CC100_REGISTER(7), CC100_REGISTER(TOTAL),
-        CC100_REGISTER(RATE), CC100_REGISTER(10), CC100_REGISTER(12), CC100_REGISTER(13), CC100_REGISTER(14), CC100_REGISTER(15),
-        CC100_REGISTER(16), CC100_REGISTER(17), CC100_REGISTER(31), CC100_HI, CC100_LO, CC100_PC, CC100_NEXT_PC,
-    };
-    for (size_t i = 0; i < sizeof worked / sizeof worked[0]; i++)
-        want_state(m, worked[i], cc100_get_word(m->state.bytes + worked[i]));
-}
+/* What the module works with. All else in the state is wanted as it was. */
+static const uint32_t worked[] = {
+    CC100_REGISTER(2), CC100_REGISTER(4), CC100_REGISTER(5), CC100_REGISTER(6), CC100_REGISTER(7), CC100_REGISTER(TOTAL),
+    CC100_REGISTER(RATE), CC100_REGISTER(10), CC100_REGISTER(12), CC100_REGISTER(13), CC100_REGISTER(14), CC100_REGISTER(15),
+    CC100_REGISTER(16), CC100_REGISTER(17), CC100_REGISTER(31), CC100_HI, CC100_LO, CC100_PC, CC100_NEXT_PC,
+};
 
 /* The module stands at its first word, or goes there. Gives the number that its run must end in. */
 static uint32_t expect_report(struct machine *m, const struct row *rows)
@@ -115,7 +75,7 @@ static uint32_t expect_report(struct machine *m, const struct row *rows)
     expect_number("an access is carried", 1, ran.width > 0);
     expect_number("its first byte is in the data", 1, ran.address >= usual.data_base);
     expect_number("its last byte is in the data", 1, ran.address + ran.width <= usual.data_base + usual.data_size);
-    want_worked(m);
+    want_as_came(m, worked, sizeof worked / sizeof worked[0]);
     if (number == CC100_EXIT_SYSTEM_CALL) {
         want_state(m, CC100_REGISTER(TOTAL), (uint32_t)r.total);
         want_state(m, CC100_REGISTER(RATE), (uint32_t)r.rate);
@@ -138,25 +98,8 @@ static void limits(struct machine *m)
     for (size_t i = 0; i < sizeof first / sizeof first[0]; i++) {
         struct row rows[ROWS] = {first[i]};
         calling(MODULE ", limits, table %zu", i);
-        start(m);
+        start_module(m);
         expect_report(m, rows);
-    }
-}
-
-/* Of either sign, and small where many bits are taken off. */
-static int64_t random_number(uint32_t off)
-{
-    int64_t number = next_random() >> off;
-    return next_random() % 8 ? number : -number;
-}
-
-static void random_rows(struct row *rows)
-{
-    uint32_t quantity_off = 1 + next_random() % 31, price_off = 1 + next_random() % 31;
-    for (uint32_t i = 0; i < ROWS; i++) {
-        rows[i].quantity = random_number(quantity_off);
-        rows[i].cost = random_number(price_off);
-        rows[i].price = random_number(price_off);
     }
 }
 
@@ -172,7 +115,7 @@ static void random_tables(struct machine *m)
             want_resumed(m);
             expect_resume(m, CC100_DONE);
         } else {
-            start(m);
+            start_module(m);
         }
         number = expect_report(m, rows);
         met[number]++;
@@ -183,26 +126,10 @@ static void random_tables(struct machine *m)
     expect_number("Trap is often met", 1, met[CC100_EXIT_TRAP] >= TABLES / 10);
 }
 
-/* Gives the module's length. */
-static uint32_t place_module(struct machine *m)
-{
-    uint8_t word[4];
-    uint32_t length = 0;
-    FILE *f = fopen(MODULE, "rb");
-    if (!f) {
-        perror(MODULE);
-        exit(2);
-    }
-    for (; length < LARGEST_CODE && fread(word, 1, sizeof word, f) == sizeof word; length += 4)
-        put_memory(m, usual.code_base + length, cc100_get_word(word));
-    fclose(f);
-    return length;
-}
-
 void test_margin(void)
 {
     struct machine m = lend(CC100_STATE_LENGTH, usual.memory_length);
-    uint32_t length = place_module(&m);
+    uint32_t length = place_sample(&m, MODULE);
     cc100_verdict v = cc100_check_placed(usual.code_base, length, usual.data_base, usual.data_size, m.memory.bytes, m.memory.length);
     calling(MODULE);
     expect_number("number of cc100_check_placed", CC100_DONE, v.number);

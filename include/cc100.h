@@ -10,7 +10,8 @@
 
    A module is confined, which is proved for every list of cc100_step, cc100_run and cc100_resume in any order, where the host
 
-   - has it accepted by cc100_check or cc100_check_placed for the layout and memory length that it then runs in, and places it unchanged;
+   - has it accepted by cc100_check, cc100_check_placed or cc100_check_straight for the layout and memory length that it then runs in, and
+     places it unchanged;
    - starts it with PC at the code base, next PC four more, register 26 the data base, register 27 the code base, register 0 zero, and a status
      with CC100_STATUS_USER set; all else in state and memory may be anything that is not refused;
    - hands each call the state and memory that the last one left, and changes in them only registers 1 to 25 and 28 to 31, HI, LO and bytes of
@@ -18,7 +19,11 @@
 
    Then every fetch is from its code area and every load and store in its data area, and so is every access that an answer carries; no exits
    are met but CC100_EXIT_INTEGER_OVERFLOW, CC100_EXIT_SYSTEM_CALL, CC100_EXIT_BREAKPOINT and CC100_EXIT_TRAP, and all other memory keeps its
-   bytes and has no influence. */
+   bytes and has no influence.
+
+   A module that cc100_check_straight accepts is confined too, and started as above it is known to finish: it meets its first exit after at
+   most four fewer completed steps than it has words. It completes no more than that, however often it is resumed, until it is resumed at the
+   exit of its last bundle; and at any time a run of as many steps as it has words ends in an exit. */
 #ifndef CC100_H
 #define CC100_H
 
@@ -51,6 +56,8 @@ extern "C" {
 #define CC100_REFUSED_STATE 17u         /* no lawful state: see below */
 #define CC100_REFUSED_INSTRUCTION 18u   /* an instruction to be written has a field too wide or not legal */
 #define CC100_REFUSED_RESUME 19u        /* a resume where the step does not end in 40, 46, 47 or 48 */
+#define CC100_REFUSED_STRAIGHT 20u      /* JR or JALR, or a direct target less than two words ahead or past the last bundle's start */
+#define CC100_REFUSED_LAST_BUNDLE 21u   /* the last bundle is not SYSCALL with code 0, a zero word, J to its own start, a zero word */
 
 #define CC100_NO_PLACE 0xFFFFFFFFu /* the place of a verdict that names no word */
 
@@ -105,8 +112,8 @@ static inline void cc100_set_word(uint8_t *bytes, uint32_t word)
     bytes[3] = (uint8_t)(word >> 24);
 }
 
-/* What the checker says of a module: `number` is CC100_DONE, which accepts it, or a refusal, 1 to 16. `place` is the index of the word that
-   8 to 16 refuse, and else CC100_NO_PLACE. */
+/* What the checker says of a module: `number` is CC100_DONE, which accepts it, or a refusal, 1 to 16, and of a straight-through module also 20
+   or 21. `place` is the index of the word that 8 to 16 and 20 refuse, and else CC100_NO_PLACE. */
 typedef struct cc100_verdict {
     uint32_t number, place;
 } cc100_verdict;
@@ -147,6 +154,15 @@ cc100_verdict cc100_check(uint64_t memory_length, uint32_t code_base, uint32_t c
    that area do not matter. Never refuses by CC100_REFUSED_IMAGE_LENGTH. */
 cc100_verdict cc100_check_placed(uint32_t code_base, uint32_t code_size, uint32_t data_base, uint32_t data_size, const uint8_t *memory,
                                  size_t memory_length);
+
+/* Checks a straight-through module before it is placed: as cc100_check, with two rules more. No word is JR or JALR, and every direct target is
+   at least two words after its branch and not past the last bundle's start, but for a J to that start in the last word but one; and the last
+   bundle is SYSCALL with code 0, a zero word, J to its own start, a zero word. Started as above, such a module ends in an exit where a run's
+   budget is more than the number of its words less four. One that is refused by these two rules may still be accepted by cc100_check.
+   Refuses as cc100_check; also, at each word after 15, by CC100_REFUSED_STRAIGHT, and after 16 by CC100_REFUSED_LAST_BUNDLE, which names no
+   word. */
+cc100_verdict cc100_check_straight(uint64_t memory_length, uint32_t code_base, uint32_t code_size, uint32_t data_base, uint32_t data_size,
+                                   const uint8_t *image, size_t image_length);
 
 /* Takes one step: runs the instruction at PC.
    Refuses, in this order: CC100_REFUSED_MEMORY, CC100_REFUSED_STATE.

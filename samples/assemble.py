@@ -12,6 +12,8 @@ a branch or jump, or a constant: its place in the code. These forms become what 
     call LABEL                   JAL LABEL, where its return address begins a bundle: a guarded jump can reach no other words
     call.r R                     ANDI R,R,m and OR R,R,27 and JALR 31,R, where its return address begins a bundle
     bundle                       nothing, but what follows begins a bundle: for a label that a guarded jump is to reach
+    straight                     as the last line: the last bundle of a straight-through module, SYSCALL 0, NOP, J to the SYSCALL and NOP, at the
+                                 end of a power of two; a label before it is where that bundle starts, and branches can lead there
 
 Where a form does not fit into its bundle, NOPs stand before it. A module that does not end by itself with a jump and its slot at a power of
 two is filled up with NOPs, and a jump to its first word. All other rules, such as the limits of a mask, are left to the checker.
@@ -22,7 +24,7 @@ import struct
 import sys
 
 CODE_BASE = 0x10000  # J and JAL hold addresses
-FIRST_WORD, CODE_MASK = "first word", "code size - 16"  # labels that no source can have, for their spaces
+FIRST_WORD, LAST_BUNDLE, CODE_MASK = "first word", "last bundle", "code size - 16"  # labels that no source can have, for their spaces
 
 # For each letter of the table below: the lowest bit of the operand's field, and its lowest and highest value.
 FIELDS = {
@@ -77,21 +79,30 @@ LINES = {
     "call": (1, (2,), plain("JAL")),
     "call.r": (1, (0,), lambda r: guarded(r, CODE_MASK, "27", "JALR", "31", r)),
     "bundle": (0, (0,), lambda: []),
+    "straight": (0, (0,), lambda: [("SYSCALL", "0"), ("NOP",), ("J", LAST_BUNDLE), ("NOP",)]),
 }
+
+
+def power_of_two(number):
+    return number & number - 1 == 0
 
 
 def add(words, labels, line, name, *operands):
     """Adds the words of a line. Labels that wait for a place get that of its first word, after the NOPs."""
     if name not in LINES:
         stop(line, "%s is no instruction and no form" % name)
+    if LAST_BUNDLE in labels:
+        stop(line, "nothing can follow straight")
     count, starts, become = LINES[name]
     if len(operands) != count:
         stop(line, "%s has %d operands and needs %d" % (name, len(operands), count))
     instructions = become(*operands)
     if words and words[-1].name in BRANCHES and (len(instructions) != 1 or instructions[0][0] in BRANCHES):
         stop(line, "%s cannot stand in the delay slot of the branch or jump before it" % name)
-    while len(words) % 4 not in starts:
+    while len(words) % 4 not in starts or name == "straight" and not power_of_two(len(words) + 4):
         words.append(Word(line, "NOP", ()))
+    if name == "straight":
+        labels[LAST_BUNDLE] = None
     labels.update([(label, 4 * len(words)) for label in labels if labels[label] is None])
     words += [Word(line, first, rest) for first, *rest in instructions]
 

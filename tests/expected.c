@@ -115,7 +115,7 @@ static void listing(const uint8_t *input, size_t length)
 static void verdict(const uint8_t *input, size_t length)
 {
     struct em_module m = {196608, 0x10000, (uint32_t)length, 0x20000, 64, input, length};
-    em_print_verdict(&m);
+    em_print_verdict(em_check, &m);
 }
 
 static const struct {

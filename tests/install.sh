@@ -32,6 +32,7 @@ installed='./bin/cc100
 ./share/man/man3/cc100.3
 ./share/man/man3/cc100_check.3
 ./share/man/man3/cc100_check_placed.3
+./share/man/man3/cc100_check_straight.3
 ./share/man/man3/cc100_read.3
 ./share/man/man3/cc100_resume.3
 ./share/man/man3/cc100_run.3

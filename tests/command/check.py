@@ -5,7 +5,7 @@ import random
 import struct
 
 import modules
-from modules import image, module
+from modules import image, module, straight_words, write_words
 from program import DONE, NOT_DONE, REFUSED, as_bytes, equal, expect, path_of, run, write
 
 M_WORDS = [0x3108003C, 0x011A4025, 0xAD090000, 0x0000000C, 0, 0, 0x08004000, 0]  # module M of document 01
@@ -105,6 +105,55 @@ def test_refusals():
         expect_verdicts([], [module(words, 32)], ["refuse %d %d" % (number, place)])
     together = [module(words, 32, "%d.module" % i) for i, (_, _, words) in enumerate(WORDS)]
     expect_verdicts([], together, ["refuse %d %d" % (number, place) for number, place, _ in WORDS])
+
+
+# Ticket 2 of document 02, by hand: the verdict on a straight-through module of eight words, whose last bundle starts at word 4.
+LAST = straight_words([], 32)[4:]
+STRAIGHT = [
+    ("accept 8", [0, 0, 0, 0] + LAST),
+    ("accept 8", [0x10000001, 0, 0x10000001, 0] + LAST),      # BEQ two words ahead, the second to the last bundle's start
+    ("accept 8", [0x0C004004, 0, 0, 0] + LAST),               # JAL to the last bundle's start
+    ("refuse 20 0", [0x10000000, 0, 0, 0] + LAST),            # one word ahead
+    ("refuse 20 1", [0, 0x1000FFFF, 0, 0] + LAST),            # to itself
+    ("refuse 20 3", [0, 0, 0, 0x1000FFFC] + LAST),            # back to the first word
+    ("refuse 20 3", [0, 0, 0, 0x08004004] + LAST),            # J to the last bundle's start, one word ahead
+    ("refuse 20 0", [0x08004005, 0, 0, 0] + LAST),            # past the last bundle's start
+    ("refuse 20 0", [0x08004006, 0, 0, 0] + LAST),
+    ("refuse 20 6", [0, 0, 0, 0, 0xC, 0, 0x0C004004, 0]),     # JAL in the last word but one
+    ("refuse 20 6", [0, 0, 0, 0, 0xC, 0, 0x08004000, 0]),     # J elsewhere there
+    ("refuse 20 2", [0x30A50010, 0x00BB2825, 0x00A00008, 0] + LAST),              # JR with its guard
+    ("refuse 20 6", [0, 0, 0, 0, 0x30A50010, 0x00BB2825, 0x00A00008, 0]),         # the same in the last bundle
+    ("refuse 20 3", [0, 0x30A50010, 0x00BB2825, 0x00A0F809] + LAST),              # JALR
+    ("refuse 21 -", [0, 0, 0, 0, 0x4C, 0, 0x08004004, 0]),    # SYSCALL 1
+    ("refuse 21 -", [0, 0, 0, 0, 0xD, 0, 0x08004004, 0]),     # BREAK 0
+    ("refuse 21 -", [0, 0, 0, 0, 0xC, 0x40, 0x08004004, 0]),  # SLL 0,0,1
+    ("refuse 21 -", [0, 0, 0, 0, 0xC, 0, 0x08004004, 0x21]),  # ADDU 0,0,0
+    ("refuse 21 -", [0, 0, 0, 0, 0, 0, 0x08004004, 0]),
+]
+# The same, where the verdict is that of the other rules.
+OTHERWISE = [
+    ("refuse 13 0", [0x00A00008, 0, 0, 0] + LAST), ("refuse 15 0", [0x08004007, 0, 0, 0] + LAST), ("refuse 16 6", [0] * 8),
+    ("refuse 14 1", [0x08004004, 0x08004000, 0, 0] + LAST), ("refuse 8 7", [0, 0, 0, 0, 0xD, 0, 0x08004004, 0xFFFFFFFF]),
+]
+
+
+def test_straight():
+    """What 20 and 21 refuse is accepted without the option, and what another number refuses is not."""
+    for verdict, words in STRAIGHT:
+        expect_verdicts(["--straight"], [write_words(words)], [verdict])
+        expect_verdicts([], ["tried.module"], ["accept 8"])
+    for verdict, words in OTHERWISE:
+        expect_verdicts(["--straight"], [write_words(words)], [verdict])
+        expect_verdicts([], ["tried.module"], [verdict])
+    together = [write_words(words, "%d.module" % i) for i, (_, words) in enumerate(STRAIGHT)]
+    expect_verdicts(["--straight"], together, [verdict for verdict, _ in STRAIGHT])
+    for number, option in LAYOUTS:
+        expect_verdicts(["--straight"] + option.split(), [write_words(STRAIGHT[0][1])], ["refuse %d -" % number])
+    files = ["samples/%s.module" % name for name in ("totals", "m", "margin", "overflow", "refused")]
+    expect_verdicts([], files, ["accept 128", "accept 8", "accept 64", "accept 8", "refuse 12 2"])
+    expect_verdicts(["--straight"], files, ["accept 128", "refuse 20 6", "refuse 20 30", "refuse 20 6", "refuse 12 2"])
+    for length in (16, 32, 4096, 65536):
+        expect_verdicts(["--straight"], [write_words(straight_words([], length))], ["accept %d" % (length // 4)])
 
 
 def test_order_of_refusals():
@@ -247,10 +296,23 @@ def random_module(r, samples):
     return made[:r.randrange(len(made))] if r.random() < 0.05 else made
 
 
-def emulated_verdict(name, layout, length):
+def random_straight(r):
+    """The bytes of a straight-through module: accesses with their guards, zeros and branches ahead, some words of it changed."""
+    count, body = r.choice([4, 8, 16, 64]), []
+    while len(body) < count - 4:
+        branch = 0x10000000 | r.randrange(1, 4 + count - len(body))
+        body += r.choice([guarded(r) + [0], [0, 0, 0, 0], [branch, 0, r.choice([0, random_word(r)]), 0]])
+    words = straight_words(body, 4 * count)
+    for _ in range(r.choice([0, 1, 1, 2])):
+        place = r.choice([r.randrange(count), count - 1 - r.randrange(4)])
+        words[place] = r.choice([random_word(r), words[place] ^ 1 << r.randrange(32), words[r.randrange(count)]])
+    return struct.pack("<%dI" % count, *words)
+
+
+def emulated_verdict(name, layout, length, checker="check"):
     size = length if layout["code-size"] is None else layout["code-size"]
     numbers = [layout["memory-length"], layout["code-base"], size, layout["data-base"], layout["data-size"]]
-    return run(["check", name] + ["%d" % number for number in numbers], program="emulated").out.decode().rstrip("\n")
+    return run([checker, name] + ["%d" % number for number in numbers], program="emulated").out.decode().rstrip("\n")
 
 
 def test_random_modules():
@@ -273,3 +335,16 @@ def test_random_modules():
             equal(["check"] + names, "the verdict program's lines", verdicts, came)
         met.update(verdict.split()[1] if verdict.startswith("refuse") else "accept" for verdict in verdicts)
     equal(["check"], "verdicts that were met", {"accept"} | {"%d" % number for number in range(1, 17)}, met)
+
+
+def test_random_straight_modules():
+    """The same with --straight: all numbers of the checker are met, 20 and 21 among them."""
+    r, met = random.Random(20261117), set()
+    for layout in [DEFAULT] * 12 + [random_layout(r) for _ in range(40)]:
+        contents = [random_straight(r) for _ in range(30 if layout is DEFAULT else 6)]
+        names = [write("random%d.module" % i, content) for i, content in enumerate(contents)]
+        verdicts = [emulated_verdict(name, layout, len(content), "straight") for name, content in zip(names, contents)]
+        options = ["--%s=%d" % (name, number) for name, number in layout.items() if number is not None and layout is not DEFAULT]
+        expect_verdicts(["--straight"] + options, names, verdicts)
+        met.update(verdict.split()[1] if verdict.startswith("refuse") else "accept" for verdict in verdicts)
+    equal(["check", "--straight"], "verdicts that were met", {"accept", "20", "21"} | {"%d" % number for number in range(1, 17)}, met)

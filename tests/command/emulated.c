@@ -1,7 +1,7 @@
 /* The second emulator as a program, for the tests of the command: it shares nothing with the product.
 
        emulated run FILE STEPS [FIGURE]...
-       emulated check FILE MEMORY_LENGTH CODE_BASE CODE_SIZE DATA_BASE DATA_SIZE
+       emulated check|straight FILE MEMORY_LENGTH CODE_BASE CODE_SIZE DATA_BASE DATA_SIZE
 
    The first places a module at 0x10000 in 196,608 bytes of memory, with its data area at 0x20000, and starts it as demand 3 says: in user
    mode at its first word, register 26 the data base, register 27 the code base; all else is 0. It takes up to so many steps and prints a line
@@ -10,7 +10,7 @@
    While figures are left, SYSCALL 0 does not end it: register 8 gets the figure's place, 0, 4, 8 and so on, and register 9 the figure, and the
    module is resumed. At the end it prints `data` and the first 16 words of the data area. It does not look whether the module is accepted.
 
-   The second prints the checker's verdict in the verdict program's words. */
+   The second prints the checker's verdict in the verdict program's words, `straight` that on a straight-through module. */
 #include <inttypes.h>
 #include <stdio.h>
 #include <stdlib.h>
@@ -122,14 +122,14 @@ static int run(int count, char **arguments)
 
 static uint32_t number_of(const char *text) { return (uint32_t)strtoul(text, NULL, 10); }
 
-static int check(char **arguments)
+static int check(em_checker *checker, char **arguments)
 {
     size_t length = load(arguments[0]);
     struct em_module m = {
         strtoull(arguments[1], NULL, 10), number_of(arguments[2]), number_of(arguments[3]), number_of(arguments[4]),
         number_of(arguments[5]), image, length,
     };
-    em_print_verdict(&m);
+    em_print_verdict(checker, &m);
     return 0;
 }
 
@@ -138,7 +138,9 @@ int main(int count, char **arguments)
     if (count >= 4 && strcmp(arguments[1], "run") == 0)
         return run(count - 2, arguments + 2);
     if (count == 8 && strcmp(arguments[1], "check") == 0)
-        return check(arguments + 2);
-    fprintf(stderr, "usage: emulated run FILE STEPS [FIGURE]... | check FILE MEMORY_LENGTH CODE_BASE CODE_SIZE DATA_BASE DATA_SIZE\n");
+        return check(em_check, arguments + 2);
+    if (count == 8 && strcmp(arguments[1], "straight") == 0)
+        return check(em_check_straight, arguments + 2);
+    fprintf(stderr, "usage: emulated run FILE STEPS [FIGURE]... | check|straight FILE MEMORY_LENGTH CODE_BASE CODE_SIZE DATA_BASE DATA_SIZE\n");
     return 2;
 }

@@ -8,13 +8,16 @@ import json
 import struct
 import textwrap
 
-from modules import DATA_SIZE, JUMP, MEMORY_LENGTH, image, module
+from modules import DATA_SIZE, JUMP, MEMORY_LENGTH, image, module, straight_words, write_words
 from program import DONE, REFUSED, equal, expect, run, write
 
 WIDTH = 80
 LAYOUT = ("memory_length", "code_base", "code_size", "data_base", "data_size")
 ACCEPTED = ("Started as a host has to start it, it stays in its own code and data, and its run ends only in Integer Overflow, System Call, "
             "Breakpoint or Trap. That is proved of every module that is accepted.")
+
+STRAIGHT = ("It is straight-through: its first exit comes after at most %d completed steps, four fewer than it has words. That is proved of every "
+            "module that is accepted as such.")
 
 
 @functools.lru_cache(maxsize=None)
@@ -397,6 +400,98 @@ def test_targets():
         expect_refused([], module(words, length), 15, place, lines, layout_text(code_size=length))
 
 
+# Refusals of straight-through modules. Where a branch leads is shown as for 15; 21 names no word, and the last bundle is shown without an arrow.
+ENDS = """
+      12  0x00010030  0000000c    syscall
+      13  0x00010034  00000000    nop
+      14  0x00010038  0800400c    j       0x10030  (word 12)
+      15  0x0001003c  00000000    nop
+"""
+NOT_STRAIGHT = [
+    # one word ahead, among the lines
+    (20, 1, straight_words([0, 0x14A00000], 64), """
+       0  0x00010000  00000000    nop
+-->    1  0x00010004  14a00000    bne     $5,$0,0x10008  (word 2)
+       2  0x00010008  00000000    nop
+       3  0x0001000c  00000000    nop
+"""),
+    # back to a bundle that is not among the lines
+    (20, 9, straight_words(M + [0] * 5 + [JUMP], 64), """
+       4  0x00010010  00000000    nop
+       5  0x00010014  00000000    nop
+       6  0x00010018  00000000    nop
+       7  0x0001001c  00000000    nop
+
+       8  0x00010020  00000000    nop
+-->    9  0x00010024  08004000    j       0x10000  (word 0)
+      10  0x00010028  00000000    nop
+      11  0x0001002c  00000000    nop
+
+It leads to word 0:
+""" + M_BUNDLE),
+    # past the start of the last bundle
+    (20, 0, straight_words([0x0800400D], 64), """
+-->    0  0x00010000  0800400d    j       0x10034  (word 13)
+       1  0x00010004  00000000    nop
+       2  0x00010008  00000000    nop
+       3  0x0001000c  00000000    nop
+
+It leads to word 13:
+""" + ENDS),
+    # JR, with a guard that fits: it leads to no word in particular
+    (20, 2, straight_words([0x30A50030, 0x00BB2825, 0x00A00008], 64), """
+       0  0x00010000  30a50030  / andi    $5,$5,0x30
+       1  0x00010004  00bb2825  | or      $5,$5,$27
+-->    2  0x00010008  00a00008  \\ jr      $5
+       3  0x0001000c  00000000    nop
+"""),
+    # JAL in the last bundle
+    (20, 14, straight_words([], 64)[:14] + [0x0C00400C, 0], """
+       8  0x00010020  00000000    nop
+       9  0x00010024  00000000    nop
+      10  0x00010028  00000000    nop
+      11  0x0001002c  00000000    nop
+
+      12  0x00010030  0000000c    syscall
+      13  0x00010034  00000000    nop
+-->   14  0x00010038  0c00400c    jal     0x10030  (word 12)
+      15  0x0001003c  00000000    nop
+"""),
+    (21, None, straight_words([], 64)[:12] + [0x0000004C, 0, 0x0800400C, 0], """
+      12  0x00010030  0000004c    syscall 0x1
+      13  0x00010034  00000000    nop
+      14  0x00010038  0800400c    j       0x10030  (word 12)
+      15  0x0001003c  00000000    nop
+"""),
+]
+
+
+def without_arrow(lines):
+    """Where there is no place, lines have no room for an arrow."""
+    return "".join(line[3:] if line.startswith("   ") else line for line in lines.splitlines(True))
+
+
+def test_straight():
+    for number, place, words, lines in NOT_STRAIGHT:
+        name = write_words(words)
+        expect_refused(["--straight"], name, number, place, without_arrow(lines) if place is None else lines, layout_text(code_size=64))
+        expect(["explain", name], DONE, "%s is accepted, 16 words\n\n" % name + wrapped(ACCEPTED) + layout_text(code_size=64))
+        said = told(number)
+        members = {"file": name, "verdict": "refuse", "number": number, "place": place, "meaning": said["meaning"], "ask": said["ask"],
+                   "change": said["change"], "around": around_of(lines, words), **layout_object(code_size=64)}
+        expect_object(["explain", "--straight", "--json", name], REFUSED, members)
+    expect_refused(["--straight"], module(PLACES[0][2], 16), 8, 0, PLACES[0][4], layout_text(code_size=16))
+    expect_refused(["--straight", "--data-size", "2"], "samples/totals.module", 3, None, "", layout_text(code_size=512, data_size=2))
+    for length in (16, 64, 65536):
+        name, most = write_words(straight_words([], length)), length // 4 - 4
+        begin = "%s is accepted, %d words\n\n" % (name, length // 4) + wrapped(ACCEPTED)
+        expect(["explain", "--straight", name], DONE, begin + "\n" + wrapped(STRAIGHT % most) + layout_text(code_size=length))
+        expect(["explain", name], DONE, begin + layout_text(code_size=length))
+        expect_object(["explain", "--straight", "--json", name], DONE, {
+            "file": name, "verdict": "accept", "words": length // 4, "most_steps": most, **layout_object(code_size=length)})
+        expect_object(["explain", "--json", name], DONE, accepted_object(name, length // 4, code_size=length))
+
+
 OTHER = ["--memory-length", "0x100000", "--code-base", "0x40000", "--data-base", "0xABC00", "--data-size", "1024"]
 
 
@@ -542,7 +637,7 @@ def test_object_bytes():
 
 def test_numbers():
     """The text of every number has the sentences of its object, in lines of at most 80 columns."""
-    for number in range(1, 20):
+    for number in range(1, 22):
         said = told(number)
         expect("explain --number %d" % number, DONE, "%d is a refusal\n\n" % number + wrapped(said["meaning"])
                + "\nFor example: %s\n\n" % said["example"] + wrapped("Whom to ask: " + said["ask"]) + "\n"
@@ -572,7 +667,7 @@ size, before its last jump.
 Not all of the four bytes from PC on are inside memory; they do not wrap, so PC
 0xFFFFFFFC gives 50.
 """)
-    for number in (0, 20, 39, 53, 2 ** 32 - 1):
+    for number in (0, 22, 39, 53, 2 ** 32 - 1):
         expect(["explain", "--number", str(number)], 2, "",
-               "cc100 explain: %d is no number of a refusal, 1 to 19, or of an exit, 40 to 52\n"
+               "cc100 explain: %d is no number of a refusal, 1 to 21, or of an exit, 40 to 52\n"
                "usage: cc100 explain [OPTION]... FILE | --number N\n'cc100 explain --help' says more\n" % number)

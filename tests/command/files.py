@@ -17,8 +17,8 @@ OTHER_USER = 65534
 LITTLE_ROOM = 14 << 20
 
 # Every command line that reads a file, which stands for FILE.
-MODULES = ["check FILE", "check --json FILE", "explain FILE", "explain --json FILE", "list FILE", "run FILE", "run --json FILE",
-           "run --steps FILE"]
+MODULES = ["check FILE", "check --json FILE", "check --straight FILE", "explain FILE", "explain --json FILE", "explain --straight FILE",
+           "list FILE", "run FILE", "run --json FILE", "run --steps FILE", "run --straight FILE"]
 HANDED = ["run samples/margin.module --rows FILE", "run --json samples/m.module --figures FILE"]
 READERS = MODULES + HANDED
 
@@ -109,12 +109,15 @@ def refused(name, length):
     return {
         "check FILE": (REFUSED, "refuse 2 -\n", ""),
         "check --json FILE": (REFUSED, "{%s}\n" % members, ""),
+        "check --straight FILE": (REFUSED, "refuse 2 -\n", ""),
         "explain FILE": (REFUSED, explained + layout, ""),
+        "explain --straight FILE": (REFUSED, explained + layout, ""),
         "explain --json FILE": (REFUSED, '{%s,"meaning":"%s","ask":"%s","change":"%s","memory_length":196608,"code_base":65536,'
                                 '"code_size":%d,"data_base":131072,"data_size":64}\n' % (members, NOT_A_SIZE, SENDER, WHOLE, length), ""),
         "run FILE": (REFUSED, "", said),
         "run --json FILE": (REFUSED, '{"event":"refused",%s}\n' % members, said),
         "run --steps FILE": (REFUSED, "", said),
+        "run --straight FILE": (REFUSED, "", said),
     }
 
 
@@ -234,7 +237,8 @@ WRITERS = [
     "explain samples/m.module", "explain samples/refused.module", "explain --json samples/refused.module", "explain --number 12",
     "explain --json --number 40", "list samples/m.module", "list samples/margin.module", "run samples/m.module",
     "run samples/m.module --figures samples/m.figures", "run samples/margin.module",
-    "run --json samples/margin.module --rows samples/margin.rows",
+    "run --json samples/margin.module --rows samples/margin.rows", "check --straight samples/m.module",
+    "run --straight samples/totals.module --rows samples/margin.rows", "explain --straight samples/m.module",
     "run --steps samples/m.module", "run --steps --json samples/margin.module", "run samples/m.module --budget 1",
     "--help", "--version", "check --help", "run -h",
 ]
@@ -315,7 +319,7 @@ def test_closed_errors():
     """What cannot be said is still in the exit status, and nothing of it is on standard output."""
     closed = {"stderr": subprocess.DEVNULL, "preexec_fn": closes(2)}
     for arguments in [filled(reader, name) for reader in READERS for name in ("missing", "samples")] + [
-            [], ["nothing"], ["check"], ["list", "--data-size", "x", "FILE"], ["explain", "--number", "20"]]:
+            [], ["nothing"], ["check"], ["list", "--data-size", "x", "FILE"], ["explain", "--number", "22"]]:
         compare(arguments, Came(NOT_DONE, b"", None), run(arguments, **closed))
     compare("check", Came(REFUSED, b"samples/m.module: accept 8\nsamples/refused.module: refuse 12 2\n", None),
             run("check samples/m.module samples/refused.module", **closed))

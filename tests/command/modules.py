@@ -24,3 +24,14 @@ def image(words, length=16):
 def module(words, length=16, name="tried.module"):
     """Writes such a module into the folder of the tests, and gives its name."""
     return write(name, image(words, length))
+
+
+def straight_words(words, length):
+    """All words of a straight-through module: these, then zeros, and the last bundle: SYSCALL 0, a zero word, J to it, a zero word."""
+    count = length // 4
+    return list(words) + [0] * (count - 4 - len(words)) + [0x0000000C, 0, JUMP + count - 4, 0]
+
+
+def write_words(words, name="tried.module"):
+    """Writes a module of just these words, and gives its name."""
+    return write(name, struct.pack("<%dI" % len(words), *words))

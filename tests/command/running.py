@@ -20,8 +20,9 @@ def placed(words, code_base="0x10000", data_size=DATA_SIZE, data_base="0x20000")
     return "%d words of code at %s, %d bytes of data at %s\n" % (words, code_base, data_size, data_base)
 
 
-def after(steps, address):
-    return "after %d steps, at 0x%x: " % (steps, address)
+def after(steps, address, most=None):
+    """Where a run stands; of a straight-through module, with the most steps that there can be."""
+    return "after %d steps%s, at 0x%x: " % (steps, "" if most is None else " of at most %d" % most, address)
 
 
 def access_text(access, data_base=DATA_BASE):

@@ -17,7 +17,7 @@ sys.path.insert(0, os.path.dirname(os.path.abspath(__file__)))
 
 import program
 
-SUBJECTS = ["usage", "check", "explaining", "listing", "running", "rows", "steps", "files", "terminal", "documents"]
+SUBJECTS = ["usage", "check", "explaining", "listing", "running", "rows", "steps", "straight", "files", "terminal", "documents"]
 
 
 def run_test(function):

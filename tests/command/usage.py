@@ -59,9 +59,10 @@ guard, where the checker takes the three in this layout:
 Checks a module and, where it is accepted, runs it from its first word with the
 rows in its data area. SYSCALL 0 asks for the next figure: its place goes into
 register 8 and the figure into register 9. SYSCALL 1 says that the report is
-complete, with the total in register 8 and the rate in register 9. Anything else
-ends the run, and the report is not complete; the last access to the data area is
-then printed.
+complete, with the total in register 8 and the rate in register 9. With --straight
+the SYSCALL 0 of the last bundle says so too, with the total in register 8 and no
+rate. Anything else ends the run, and the report is not complete; the last access
+to the data area is then printed.
 """,
 }
 
@@ -70,6 +71,7 @@ ALL = ("check", "explain", "list", "run")
 OPTIONS = [
     ("help", "  --help                says this\n", ALL),
     ("json", "  --json                prints one JSON object a line\n", ("check", "explain", "run")),
+    ("straight", "  --straight            takes only straight-through modules, known to finish\n", ("check", "explain", "run")),
     ("number", "  --number N            explains a number alone, of a refusal or an exit\n", ("explain",)),
     ("rows", "  --rows FILE           a line of quantity, cost and price for each row\n", ("run",)),
     ("figures", "  --figures FILE        whole numbers that the module can ask for\n", ("run",)),
@@ -81,7 +83,7 @@ OPTIONS = [
     ("data-base", "  --data-base N         address of the data area (0x20000)\n", ALL),
     ("data-size", "  --data-size N         bytes of the data area (64)\n", ALL),
 ]
-FLAGS = ("help", "json", "steps")
+FLAGS = ("help", "json", "straight", "steps")
 FILE_NAMES = ("rows", "figures")
 LARGEST = {"memory-length": 2**64 - 1, "budget": 2**64 - 1}  # of all other numbers it is 2^32 - 1
 
@@ -182,7 +184,9 @@ def test_abbreviated_options():
     expect(["check", "--js", M] + layout, DONE, accepted)
     expect(["check", "--m", "16777217", M], REFUSED, "refuse 1 -\n")
     expect(["check", "--data-s", "3", M], REFUSED, "refuse 3 -\n")
-    expect_wrong(["explain", "--n", "20"], "20 is no number of a refusal, 1 to 19, or of an exit, 40 to 52")
+    expect(["check", "--s", M], REFUSED, "refuse 20 6\n")  # M jumps back to its first word
+    expect(["run", "--st", "--stra", M], NOT_DONE, "", wrong("run", "there is no option '--st'"))  # or --steps
+    expect_wrong(["explain", "--n", "22"], "22 is no number of a refusal, 1 to 21, or of an exit, 40 to 52")
     expect_wrong(["run", "--b", "x", M], not_a_number("budget", "x"))
 
 
@@ -270,7 +274,7 @@ def test_largest_numbers():
     expect(["run", "--budget", "3", M], REFUSED, started + "still running, and its budget is spent; the report is not complete\n"
            "last access: store of 4 bytes at 0x20000, place 0 of the data area\n")
     for number in (2**32 - 1, 2**32 - 12):
-        expect_wrong(["explain", "--number", "%#x" % number], "%d is no number of a refusal, 1 to 19, or of an exit, 40 to 52" % number)
+        expect_wrong(["explain", "--number", "%#x" % number], "%d is no number of a refusal, 1 to 21, or of an exit, 40 to 52" % number)
 
 
 def test_last_of_an_option():
@@ -300,7 +304,7 @@ def test_number_with_a_file():
         expect_wrong(["explain"] + arguments, "'%s' is one file too many" % M)
     expect_wrong(["explain", "--number", "12", "-"], "'-' is one file too many")
     # The count of files comes before the number itself.
-    expect_wrong(["explain", "--number", "20", M], "'%s' is one file too many" % M)
+    expect_wrong(["explain", "--number", "22", M], "'%s' is one file too many" % M)
 
 
 def test_places_of_options():

@@ -1,4 +1,4 @@
-/* The checker: document 01's sections on a module, its guards and the refusal table. */
+/* The checker: document 01's sections on a module, its guards and the refusal table, and the profile of ticket 2 of document 02. */
 #include <inttypes.h>
 #include <stdio.h>
 
@@ -178,13 +178,18 @@ static bool rule_14(const struct em_module *m, size_t index)
     return (has_direct_target(here) || is_register_jump(here)) && (has_direct_target(before) || is_register_jump(before));
 }
 
+/* The word that a branch, J or JAL leads to, counted from the first one of the code; a target before it is far behind the code. */
+static size_t target_of(const struct em_module *m, size_t index)
+{
+    uint32_t offset = em_direct_target(m->code_base + 4 * (uint32_t)index, at(m, index)) - m->code_base;
+    return offset / 4;
+}
+
 static bool rule_15(const struct em_module *m, size_t index)
 {
-    struct em_instruction i = at(m, index);
-    if (!has_direct_target(i.kind))
+    if (!has_direct_target(at(m, index).kind))
         return false;
-    uint32_t offset = em_direct_target(m->code_base + 4 * (uint32_t)index, i) - m->code_base;
-    size_t target = offset / 4;
+    size_t target = target_of(m, index);
     bool outside = target >= word_count(m), last = target == word_count(m) - 1;
     return outside || last || needs_guard(at(m, target).kind) || needs_guard(at(m, target + 1).kind);
 }
@@ -193,6 +198,43 @@ static bool rule_16(const struct em_module *m)
 {
     uint32_t kind = word_count(m) < 2 ? 0 : at(m, word_count(m) - 2).kind;
     return kind != J && kind != JAL && kind != JR && kind != JALR;
+}
+
+/* The word at which the last bundle starts. */
+static size_t last_bundle(const struct em_module *m)
+{
+    return word_count(m) < 4 ? 0 : word_count(m) - 4;
+}
+
+/* "a J to that start in the last word but one is excused from the target rule, even where the rest of the bundle differs" */
+static bool excused(const struct em_module *m, size_t index)
+{
+    return at(m, index).kind == J && index + 2 == word_count(m) && target_of(m, index) == last_bundle(m);
+}
+
+/* "20 when a word is JR or JALR, or its target isn't at least two words after it or is past the last bundle's start" */
+static bool rule_20(const struct em_module *m, size_t index)
+{
+    uint32_t kind = at(m, index).kind;
+    if (is_register_jump(kind))
+        return true;
+    if (!has_direct_target(kind) || excused(m, index))
+        return false;
+    return target_of(m, index) < index + 2 || target_of(m, index) > last_bundle(m);
+}
+
+static bool is_zero_word(const struct em_module *m, size_t index)
+{
+    return index < word_count(m) && em_word_at(m->image, index) == 0;
+}
+
+/* "The last bundle is SYSCALL with code 0, a zero word, J to that bundle's own start, a zero word" */
+static bool rule_21(const struct em_module *m)
+{
+    size_t start = last_bundle(m);
+    struct em_instruction call = at(m, start), jump = at(m, start + 2);
+    bool calls = call.kind == SYSCALL && call.value == 0, jumps = jump.kind == J && target_of(m, start + 2) == start;
+    return !calls || !is_zero_word(m, start + 1) || !jumps || !is_zero_word(m, start + 3);
 }
 
 static layout_rule *const layout_rules[] = {rule_1, rule_2, rule_3, rule_4, rule_5, rule_6, rule_7};
@@ -207,13 +249,13 @@ static uint32_t broken_by_layout(const struct em_module *m)
     return broken;
 }
 
-/* The rules of 8 to 15 that are broken at a word. */
-static uint32_t broken_by_word(const struct em_module *m, size_t index)
+/* The rules of 8 to 15 that are broken at a word, and of a straight-through module also 20. */
+static uint32_t broken_by_word(const struct em_module *m, bool straight, size_t index)
 {
     uint32_t broken = 0;
     for (uint32_t n = 8; n <= 15; n++)
         broken |= (uint32_t)word_rules[n - 8](m, index) << n;
-    return broken;
+    return broken | (uint32_t)(straight && rule_20(m, index)) << 20;
 }
 
 static uint32_t first(uint32_t broken)
@@ -224,29 +266,39 @@ static uint32_t first(uint32_t broken)
     return n;
 }
 
-uint32_t em_check(const struct em_module *m, uint32_t *place)
+static uint32_t check(const struct em_module *m, bool straight, uint32_t *place)
 {
     *place = EM_NO_PLACE;
     uint32_t broken = broken_by_layout(m);
     if (broken != 0)
         return first(broken);
     size_t index = 0, words = word_count(m);
-    while (index < words && (broken = broken_by_word(m, index)) == 0)
+    while (index < words && (broken = broken_by_word(m, straight, index)) == 0)
         index++;
     if (index < words) {
         *place = (uint32_t)index;
         return first(broken);
     }
     if (!rule_16(m))
-        return 0;
+        return straight && rule_21(m) ? 21 : 0;
     *place = (uint32_t)words - 2;
     return 16;
 }
 
-/* Document 01, Marked cases: `accept` and the word count; or `refuse`, the number, and the word index or `-`. */
-void em_print_verdict(const struct em_module *m)
+uint32_t em_check(const struct em_module *m, uint32_t *place)
 {
-    uint32_t place, number = em_check(m, &place);
+    return check(m, false, place);
+}
+
+uint32_t em_check_straight(const struct em_module *m, uint32_t *place)
+{
+    return check(m, true, place);
+}
+
+/* Document 01, Marked cases: `accept` and the word count; or `refuse`, the number, and the word index or `-`. */
+void em_print_verdict(em_checker *checker, const struct em_module *m)
+{
+    uint32_t place, number = checker(m, &place);
     if (number == 0)
         printf("accept %zu\n", word_count(m));
     else if (place == EM_NO_PLACE)
@@ -255,10 +307,20 @@ void em_print_verdict(const struct em_module *m)
         printf("refuse %" PRIu32 " %" PRIu32 "\n", number, place);
 }
 
+static uint32_t broken_anywhere(const struct em_module *m, bool straight)
+{
+    uint32_t broken = broken_by_layout(m) | (uint32_t)rule_16(m) << 16 | (uint32_t)(straight && rule_21(m)) << 21;
+    for (size_t index = 0; index < word_count(m); index++)
+        broken |= broken_by_word(m, straight, index);
+    return broken;
+}
+
 uint32_t em_broken(const struct em_module *m)
 {
-    uint32_t broken = broken_by_layout(m) | (uint32_t)rule_16(m) << 16;
-    for (size_t index = 0; index < word_count(m); index++)
-        broken |= broken_by_word(m, index);
-    return broken;
+    return broken_anywhere(m, false);
+}
+
+uint32_t em_broken_straight(const struct em_module *m)
+{
+    return broken_anywhere(m, true);
 }

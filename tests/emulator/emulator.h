@@ -1,7 +1,7 @@
-/* A second CC100-C machine, reader, writer and checker, written from documents 004 and 01 and ticket 1 of document 02 alone. It shares nothing
-   with the product: neither its Rattle sources nor its C header. It is meant to be read beside the documents, not to be fast.
+/* A second CC100-C machine, reader, writer and checker, written from documents 004 and 01 and tickets 1 and 2 of document 02 alone. It shares
+   nothing with the product: neither its Rattle sources nor its C header. It is meant to be read beside the documents, not to be fast.
 
-   The numbers that it gives are those of document 01: 0 for done, 1 to 19 for refusals, 40 to 52 for exits. */
+   The numbers that it gives are those of documents 01 and 02: 0 for done, 1 to 21 for refusals, 40 to 52 for exits. */
 #ifndef EMULATOR_H
 #define EMULATOR_H
 
@@ -48,11 +48,15 @@ struct em_module {
     const uint8_t *image;
     size_t image_length;
 };
-uint32_t em_check(const struct em_module *m, uint32_t *place); /* 0 or the refusal, and its place or EM_NO_PLACE */
-void em_print_verdict(const struct em_module *m);              /* the verdict program's line */
+
+/* The checker, and the same with the profile for straight-through modules: 0 or the refusal, and its place or EM_NO_PLACE. */
+typedef uint32_t em_checker(const struct em_module *m, uint32_t *place);
+em_checker em_check, em_check_straight;
+void em_print_verdict(em_checker *checker, const struct em_module *m); /* as the verdict program's line */
 
 /* Every rule of 1 to 16 that the module breaks anywhere, whatever comes before it: bit n is set where rule n is broken. Words are those
-   that lie whole in the image. */
+   that lie whole in the image. The second has 20 and 21 too. */
 uint32_t em_broken(const struct em_module *m);
+uint32_t em_broken_straight(const struct em_module *m);
 
 #endif

@@ -1,4 +1,5 @@
-/* Random modules in random layouts: accepted as they are made, and then with words, layout or image changed. */
+/* Random modules in random layouts: accepted as they are made, and then with words, layout or image changed. The same for straight-through ones,
+   checked by that profile. */
 #include <string.h>
 
 #include "harness.h"
@@ -6,13 +7,13 @@
 #define MODULES 50000
 #define CHANGED 8 /* times that a module is changed */
 #define OFTEN 300 /* times that each number has to be given at least */
-#define NUMBERS 17
+#define NUMBERS 22
 #define MOST_MEMORY (CC100_LONGEST_MEMORY - 131072)
 
 static struct module m;
 static unsigned long modules, given[NUMBERS];
 
-static uint32_t words(void) { return m.code_size / 4; }
+static uint32_t words(void) { return word_count(&m); }
 
 /* Words that break a rule in most places. */
 static uint32_t unlikely_word(uint32_t at)
@@ -121,33 +122,48 @@ static void change(void)
         change_layout();
 }
 
-static void accepted_and_changed(void)
+static void accepted_and_changed(const struct profile *p)
 {
     static struct module accepted;
     now.name = "accepted module, bytes of code";
-    make_accepted(&m, below(8) ? 1u << 18 : MOST_MEMORY);
+    p->make(&m, below(8) ? 1u << 18 : MOST_MEMORY);
     now.word = m.code_size;
-    same_number("number of an accepted module", CC100_DONE, compare_check(&m));
+    same_number("number of an accepted module", CC100_DONE, p->compare(&m));
     copy_module(&accepted, &m);
     now.name = "changed module, change";
     for (now.word = 0; now.word < CHANGED; now.word++) {
         copy_module(&m, &accepted);
         change();
-        uint32_t number = compare_check(&m);
+        uint32_t number = p->compare(&m);
         if (number < NUMBERS)
             given[number]++;
     }
 }
 
-void test_changed(void)
+/* Of the numbers, those that the checker can answer have their bits set. */
+static void change_modules(const struct profile *p, uint32_t numbers)
 {
-    begin_part("changed modules");
+    memset(given, 0, sizeof given);
     for (modules = 0; modules < (uint64_t)MODULES * rounds; modules++) {
         now.turn = modules;
-        accepted_and_changed();
+        accepted_and_changed(p);
     }
     now.name = "verdict";
     for (now.word = 0; now.word < NUMBERS; now.word++)
-        at_least("modules that get it", OFTEN, given[now.word]);
+        at_least("modules that get it", numbers >> now.word & 1 ? OFTEN : 0, given[now.word]);
+}
+
+void test_changed(void)
+{
+    begin_part("changed modules");
+    change_modules(&usual, 0x1FFFF);
     end_part("%lu accepted, each changed %d times; verdicts 0 to 16:%s", modules, CHANGED, listed(given, 0, 16));
+}
+
+void test_changed_straight(void)
+{
+    begin_part("changed straight-through modules");
+    change_modules(&straight, 0x31FFFF);
+    end_part("%lu accepted, each changed %d times; verdicts 20 %lu, 21 %lu, 0 to 16:%s", modules, CHANGED, given[20], given[21],
+             listed(given, 0, 16));
 }

@@ -248,20 +248,11 @@ static void start_twin(void)
     copy_lent(&twin_began, &twin.memory);
 }
 
-/* User mode at the first word, the bases in 26 and 27, and all else random. */
 static void start(uint32_t most_memory)
 {
     make_accepted(&m, most_memory);
     same_number("number of an accepted module", CC100_DONE, compare_check(&m));
-    set_length(&emulator.memory, (size_t)m.memory_length);
-    fill_random(&emulator.memory);
-    write_image(&m, emulator.memory.bytes + m.code_base);
-    random_state(&emulator);
-    set_state(&emulator, CC100_PC, m.code_base);
-    set_state(&emulator, CC100_NEXT_PC, m.code_base + 4);
-    set_state(&emulator, CC100_REGISTER(26), m.data_base);
-    set_state(&emulator, CC100_REGISTER(27), m.code_base);
-    set_state(&emulator, CC100_STATUS, state_word(&emulator, CC100_STATUS) | CC100_STATUS_USER);
+    start_module(&emulator, &m);
     copy_machine(&product, &emulator);
     copy_lent(&began, &emulator.memory);
     start_twin();

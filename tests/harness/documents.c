@@ -1,5 +1,6 @@
 /* Document 01's own answers, written down from it by hand: its marked cases C1 to C12, and every example of its refusal table; and the accesses
-   that ticket 1 of document 02 asks for. The emulator is tried on them, as all else here trusts it, and the product and plain C beside it. */
+   and the straight-through modules of tickets 1 and 2 of document 02. The emulator is tried on them, as all else here trusts it, and the product
+   and plain C beside it. */
 #include <string.h>
 
 #include "harness.h"
@@ -150,23 +151,59 @@ static const struct module_case module_cases[] = {
     {"16 eight zero words", EXAMPLE, {0, 0, 0, 0, 0, 0, 0, 0}, 16, 6},
 };
 
-static void try_module(const struct module_case *c)
+/* The same for ticket 2. Modules of eight words have their last bundle at word 4, to which 0x08004004 jumps. */
+#define LAST_BUNDLE 0x0000000C, 0, 0x08004004, 0
+
+static const struct module_case straight_cases[] = {
+    {"four words", 196608, 0x10000, 16, 0x20000, 64, 16, {0x0000000C, 0, 0x08004000, 0}, 0, NONE},
+    {"BEQ two words ahead", EXAMPLE, {0x10000001, 0, 0, 0, LAST_BUNDLE}, 0, NONE},
+    {"BEQ to the last bundle's start", EXAMPLE, {0, 0, 0x10000001, 0, LAST_BUNDLE}, 0, NONE},
+    {"JAL to the last bundle's start", EXAMPLE, {0x0C004004, 0, 0, 0, LAST_BUNDLE}, 0, NONE},
+    {"BEQ one word ahead", EXAMPLE, {0x10000000, 0, 0, 0, LAST_BUNDLE}, 20, 0},
+    {"BEQ to itself", EXAMPLE, {0, 0x1000FFFF, 0, 0, LAST_BUNDLE}, 20, 1},
+    {"BEQ to the word before it", EXAMPLE, {0, 0, 0, 0x1000FFFE, LAST_BUNDLE}, 20, 3},
+    {"J to the last bundle's start, one word ahead", EXAMPLE, {0, 0, 0, 0x08004004, LAST_BUNDLE}, 20, 3},
+    {"J past the last bundle's start", EXAMPLE, {0x08004005, 0, 0, 0, LAST_BUNDLE}, 20, 0},
+    {"BEQ to the last word but one", EXAMPLE, {0, 0x10000004, 0, 0, LAST_BUNDLE}, 20, 1},
+    {"J to the last word", EXAMPLE, {0x08004007, 0, 0, 0, LAST_BUNDLE}, 15, 0},
+    {"J to the last bundle's start, at that start", EXAMPLE, {0, 0, 0, 0, 0x08004004, 0, 0x08004004, 0}, 20, 4},
+    {"JAL in the last word but one", EXAMPLE, {0, 0, 0, 0, 0x0000000C, 0, 0x0C004004, 0}, 20, 6},
+    {"J to word 0 in the last word but one", EXAMPLE, {0, 0, 0, 0, 0x0000000C, 0, 0x08004000, 0}, 20, 6},
+    {"J to itself in the last word but one", EXAMPLE, {0, 0, 0, 0, 0x0000000C, 0, 0x08004006, 0}, 20, 6},
+    {"C9 module M", EXAMPLE, {0x3108003C, 0x011A4025, 0xAD090000, 0x0000000C, 0, 0, 0x08004000, 0}, 20, 6},
+    {"JR with its guard", EXAMPLE, {0x30A50010, 0x00BB2825, 0x00A00008, 0, LAST_BUNDLE}, 20, 2},
+    {"JALR with its guard", EXAMPLE, {0, 0x30A50010, 0x00BB2825, 0x00A0F809, LAST_BUNDLE}, 20, 3},
+    {"JR without a guard", EXAMPLE, {0x00A00008, 0, 0, 0, LAST_BUNDLE}, 13, 0},
+    {"JR with its guard as the last bundle", EXAMPLE, {0, 0, 0, 0, 0x30A50010, 0x00BB2825, 0x00A00008, 0}, 20, 6},
+    {"SYSCALL 1", EXAMPLE, {0, 0, 0, 0, 0x0000004C, 0, 0x08004004, 0}, 21, NONE},
+    {"BREAK 0", EXAMPLE, {0, 0, 0, 0, 0x0000000D, 0, 0x08004004, 0}, 21, NONE},
+    {"ADDU 0,0,0 after SYSCALL 0", EXAMPLE, {0, 0, 0, 0, 0x0000000C, 0x00000021, 0x08004004, 0}, 21, NONE},
+    {"ADDU 0,0,0 in the last word", EXAMPLE, {0, 0, 0, 0, 0x0000000C, 0, 0x08004004, 0x00000021}, 21, NONE},
+    {"the rest of the bundle differs", EXAMPLE, {0, 0, 0, 0, 0x24050001, 0x24060001, 0x08004004, 0x24070001}, 21, NONE},
+    {"eight zero words: 16 before 21", EXAMPLE, {0, 0, 0, 0, 0, 0, 0, 0}, 16, 6},
+    {"20 before 16", EXAMPLE, {0x1000FFFF, 0, 0, 0, 0, 0, 0, 0}, 20, 0},
+    {"20 before 8 at a later word", EXAMPLE, {0x1000FFFF, 0xFFFFFFFF, 0, 0, LAST_BUNDLE}, 20, 0},
+    {"8 before 20 at a later word", EXAMPLE, {0xFFFFFFFF, 0x1000FFFF, 0, 0, LAST_BUNDLE}, 8, 0},
+    {"7 before 20", 196608, 0x10000, 32, 0x20000, 64, 28, {0x1000FFFF, 0, 0, 0, LAST_BUNDLE}, 7, NONE},
+};
+
+static void try_module(const struct profile *p, const struct module_case *c)
 {
     static struct module m;
     uint8_t image[32];
     struct em_module e = {c->memory_length, c->code_base, c->code_size, c->data_base, c->data_size, image, c->image_length};
     uint32_t place;
-    m = (struct module){c->memory_length, c->code_base, c->code_size, c->data_base, c->data_size, c->image_length, {0}};
+    m = (struct module){c->memory_length, c->code_base, c->code_size, c->data_base, c->data_size, c->image_length, 0, {0}};
     memcpy(m.words, c->words, sizeof c->words);
     now.name = c->name;
     now.word = c->number;
     write_image(&m, image);
-    now.call = "em_check";
-    same_number("number", c->number, em_check(&e, &place));
+    now.call = "the emulator's checker";
+    same_number("number", c->number, p->check(&e, &place));
     same_number("place", c->place, place);
-    compare_check(&m);
-    now.call = "em_broken";
-    same_number("the rule is among the broken ones", c->number != 0, broken_rules(&m) >> c->number & 1);
+    p->compare(&m);
+    now.call = "the emulator's broken rules";
+    same_number("the rule is among them", c->number != 0, p->broken(&m) >> c->number & 1);
 }
 
 /* Writing a shift of 32, a run and a resume with PC 2, and a resume at the word 0. */
@@ -199,8 +236,10 @@ void test_documents(void)
     for (size_t i = 0; i < COUNT(access_cases); i++)
         try_access(&access_cases[i]);
     for (size_t i = 0; i < COUNT(module_cases); i++)
-        try_module(&module_cases[i]);
+        try_module(&usual, &module_cases[i]);
+    for (size_t i = 0; i < COUNT(straight_cases); i++)
+        try_module(&straight, &straight_cases[i]);
     other_refusals();
-    end_part("%zu steps and %zu modules with document 01's answers, %zu accesses with document 02's", COUNT(step_cases) + 2,
-             COUNT(module_cases), COUNT(access_cases));
+    end_part("%zu steps and %zu modules with document 01's answers, %zu accesses and %zu straight-through modules with document 02's",
+             COUNT(step_cases) + 2, COUNT(module_cases), COUNT(access_cases), COUNT(straight_cases));
 }

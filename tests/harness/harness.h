@@ -91,16 +91,22 @@ struct module {
     uint64_t memory_length;
     uint32_t code_base, code_size, data_base, data_size;
     size_t image_length;
+    int straight; /* its words are made for the profile for straight-through modules */
     uint32_t words[MOST_WORDS + 8];
 };
 void copy_module(struct module *to, const struct module *from);
 
-/* An accepted module in a random layout, with at most so many bytes of memory outside code and data. And new words, `count` of them, for
-   the layout that a module has: they keep rules 8 to 16, also where the layout breaks one of 1 to 7. */
-void make_accepted(struct module *m, uint32_t most_memory);
+/* An accepted module in a random layout, with at most so many bytes of memory outside code and data; and a straight-through one. And new words,
+   `count` of them, for the layout that a module has: they keep rules 8 to 16, also where the layout breaks one of 1 to 7. */
+typedef void maker(struct module *m, uint32_t most_memory);
+maker make_accepted, make_straight;
 void make_words(struct module *m, uint32_t count);
 
+/* Where the last bundle of so many words begins. */
+uint32_t last_bundle(uint32_t count);
+
 /* Words of modules. Registers that they write are never 26 or 27. */
+uint32_t word_count(const struct module *m);
 uint32_t kind_at(const struct module *m, uint32_t at);
 int guarded(const struct module *m, uint32_t at);  /* an access, JR or JALR */
 uint32_t random_register(uint32_t least);          /* any but 26 and 27 */
@@ -113,12 +119,27 @@ void put_access(struct module *m, uint32_t at, uint32_t kind);        /* three w
 void put_register_jump(struct module *m, uint32_t at, uint32_t kind); /* the same for JR or JALR */
 void choose_targets(struct module *m, uint32_t count);                /* allowed ones, for all branches and jumps among the words */
 
-/* A module is checked by the product, as an image and placed, by plain C and by the emulator, whose number is given. */
-uint32_t compare_check(const struct module *m);
-uint32_t broken_rules(const struct module *m); /* what em_broken says */
+/* A module is checked by the product, as an image and placed, by plain C and by the emulator, whose number is given. And the same for
+   straight-through modules, as an image. */
+typedef uint32_t comparison(const struct module *m);
+comparison compare_check, compare_check_straight;
+comparison broken_rules, broken_rules_straight; /* what em_broken and em_broken_straight say */
+
+/* The usual rules, and the profile for straight-through modules: what makes an accepted module, and what says which rules any module breaks. */
+struct profile {
+    maker *make;
+    em_checker *check;
+    comparison *compare, *broken;
+};
+extern const struct profile usual, straight;
+
 void write_image(const struct module *m, uint8_t *to);
 
-/* A way to break one rule of 1 to 16: it changes an accepted module, and gives whether it could. A slow one is tried a few times only. */
+/* The module placed in random memory of its length, and started as demand 3 says: user mode at the first word, the bases in 26 and 27, and all
+   else random. */
+void start_module(struct machine *x, const struct module *m);
+
+/* A way to break one rule: it changes an accepted module, and gives whether it could. A slow one is tried a few times only. */
 struct way {
     uint32_t rule;
     const char *name;
@@ -126,7 +147,14 @@ struct way {
     uint32_t detail;
     int slow;
 };
-extern const struct way layout_ways[], word_ways[], guard_ways[]; /* each ends with rule 0 */
+extern const struct way layout_ways[], word_ways[], guard_ways[], straight_ways[]; /* each ends with rule 0 */
+
+/* A way that breaks other rules too, bit n for rule n: its own is the one that is named. */
+struct combined {
+    struct way way;
+    uint32_t also;
+};
+extern const struct combined straight_combined[]; /* ends with rule 0 */
 
 /* Puts ordinary words into bundles that are not the last. Gives the index of the first word, or NOWHERE where the module is too short. */
 #define NOWHERE 0xFFFFFFFFu
@@ -141,5 +169,10 @@ void test_confined(void);
 void test_changed(void);
 void test_rules(void);
 void test_documents(void);
+void test_straight(void);
+
+/* And those of changed.c and rules.c for straight-through modules. */
+void test_changed_straight(void);
+void test_rules_straight(void);
 
 #endif

@@ -146,6 +146,9 @@ int main(int count, char **arguments)
     test_changed();
     test_rules();
     test_confined();
+    test_changed_straight();
+    test_rules_straight();
+    test_straight();
     printf("harness: %" PRIu64 " comparisons, %" PRIu64 " differences\n", comparisons, differences);
     return differences != 0;
 }

@@ -1,9 +1,10 @@
-/* Random modules that are accepted and do things: they loop, call, return, load and store at both ends of their data, and exit at times. */
+/* Random modules that are accepted and do things: they loop, call, return, load and store at both ends of their data, and exit at times.
+   Straight-through ones go on ahead instead, to their last bundle. */
 #include <string.h>
 
 #include "harness.h"
 
-#define TRIES 8 /* for a target that is allowed, before the first word is taken */
+#define TRIES 8 /* for a target that is allowed, before one is taken that always is */
 
 static const uint32_t accesses[] = {LB, LBU, SB, LH, LHU, SH, LW, SW, LL, SC};
 static const uint32_t never_exit[] = {
@@ -22,6 +23,8 @@ void copy_module(struct module *to, const struct module *from)
     memcpy(to, from, offsetof(struct module, words));
     memcpy(to->words, from->words, 4 * (from->image_length / 4 + 4));
 }
+
+uint32_t word_count(const struct module *m) { return m->code_size / 4; }
 
 uint32_t kind_at(const struct module *m, uint32_t at) { return plain_read(m->words[at]).kind; }
 
@@ -135,25 +138,39 @@ uint32_t to_word(const struct module *m, uint32_t word, uint32_t at, uint32_t ta
     return (word & ~CONSTANT) | ((target - at - 1) & CONSTANT);
 }
 
-/* A target from one word up to another. The first word is always allowed: what is guarded is the third of a bundle or the fourth. */
-static uint32_t allowed_target(const struct module *m, uint32_t from, uint32_t to)
+/* A target from one word up to before another; where none is found, the one that is always allowed. */
+static uint32_t allowed_target(const struct module *m, uint32_t from, uint32_t to, uint32_t always)
 {
-    for (int i = 0; i < TRIES; i++) {
+    for (int i = 0; i < TRIES && from < to; i++) {
         uint32_t target = from + below(to - from);
         if (!guarded(m, target) && !guarded(m, target + 1))
             return target;
     }
-    return 0;
+    return always;
 }
 
-/* Most are forwards, so that a loop goes through much of the module. The last jump goes back. */
+/* Most are forwards, so that a loop goes through much of the module. The last jump goes back. The first word is always allowed: what is guarded
+   is the third of a bundle or the fourth. */
+static uint32_t any_target(const struct module *m, uint32_t at, uint32_t count)
+{
+    uint32_t forwards = at + 2 < count && below(4);
+    return allowed_target(m, forwards ? at + 1 : 0, count - 1, 0);
+}
+
+uint32_t last_bundle(uint32_t count) { return count < 4 ? 0 : count - 4; }
+
+/* Ahead, often just two words, where a branch leaves no word out; and in the last bundle to its start. */
+static uint32_t target_ahead(const struct module *m, uint32_t at, uint32_t count)
+{
+    uint32_t last = last_bundle(count), near = at + 2 < last && below(2);
+    return allowed_target(m, at + 2, near ? at + 3 : last + 1, last);
+}
+
 void choose_targets(struct module *m, uint32_t count)
 {
-    for (uint32_t at = 0; at < count; at++) {
-        uint32_t forwards = at + 2 < count && below(4), from = forwards ? at + 1 : 0;
+    for (uint32_t at = 0; at < count; at++)
         if (direct(kind_at(m, at)))
-            m->words[at] = to_word(m, m->words[at], at, allowed_target(m, from, count - 1));
-    }
+            m->words[at] = to_word(m, m->words[at], at, m->straight ? target_ahead(m, at, count) : any_target(m, at, count));
 }
 
 /* A call at the third word of a bundle links to the first of the next bundle, to which a guarded jump can return. */
@@ -180,20 +197,61 @@ static uint32_t put_some(struct module *m, uint32_t at, uint32_t count)
     return 1;
 }
 
+/* Puts one or three words before the last bundle. Gives how many. A branch has its slot there too. */
+static uint32_t put_some_straight(struct module *m, uint32_t at, uint32_t count)
+{
+    uint32_t left = last_bundle(count) - at, choice = below(8);
+    if (choice < 3 && at % 4 < 2 && left > 2 && m->data_size > 0) {
+        put_access(m, at, random_access(m->data_size));
+        return 3;
+    }
+    m->words[at] = choice >= 6 && left > 1 && (at == 0 || !branches(kind_at(m, at - 1))) ? direct_word() : ordinary_word();
+    return 1;
+}
+
+/* SYSCALL 0, a zero word, J to it, a zero word; what J leads to is chosen with the other targets. */
+static void put_last_bundle(struct module *m, uint32_t at)
+{
+    m->words[at] = word_of(SYSCALL, 0, 0, 0, 0);
+    m->words[at + 1] = 0;
+    m->words[at + 2] = word_of(J, 0, 0, 0, 0);
+    m->words[at + 3] = 0;
+}
+
 void make_words(struct module *m, uint32_t count)
 {
-    static const uint32_t rates[] = {2, 4, 8, 20}, used[] = {4, 8, 30};
-    exit_in = PICK(rates);
+    static const uint32_t rates[] = {2, 4, 8, 20}, straight_rates[] = {2, 8, 20, 1000}, used[] = {4, 8, 30};
+    uint32_t end = m->straight ? last_bundle(count) : count;
+    exit_in = m->straight ? PICK(straight_rates) : PICK(rates);
     registers = PICK(used);
-    for (uint32_t at = 0; at < count;)
-        at += put_some(m, at, count);
+    for (uint32_t at = 0; at < end;)
+        at += m->straight ? put_some_straight(m, at, count) : put_some(m, at, count);
+    if (m->straight)
+        put_last_bundle(m, end);
     choose_targets(m, count);
 }
 
-void make_accepted(struct module *m, uint32_t most_memory)
+static void make(struct module *m, uint32_t most_memory, int straight)
 {
     random_layout(m, most_memory);
+    m->straight = straight;
     make_words(m, m->code_size / 4);
+}
+
+void make_accepted(struct module *m, uint32_t most_memory) { make(m, most_memory, 0); }
+void make_straight(struct module *m, uint32_t most_memory) { make(m, most_memory, 1); }
+
+void start_module(struct machine *x, const struct module *m)
+{
+    set_length(&x->memory, (size_t)m->memory_length);
+    fill_random(&x->memory);
+    write_image(m, x->memory.bytes + m->code_base);
+    random_state(x);
+    set_state(x, CC100_PC, m->code_base);
+    set_state(x, CC100_NEXT_PC, m->code_base + 4);
+    set_state(x, CC100_REGISTER(DATA_REGISTER), m->data_base);
+    set_state(x, CC100_REGISTER(CODE_REGISTER), m->code_base);
+    set_state(x, CC100_STATUS, state_word(x, CC100_STATUS) | CC100_STATUS_USER);
 }
 
 uint32_t fresh_bundles(struct module *m, uint32_t count)

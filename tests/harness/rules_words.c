@@ -1,8 +1,6 @@
 /* Ways to break one of rules 8 to 11 and 14 to 16 and no other. */
 #include "harness.h"
 
-static uint32_t word_count(const struct module *m) { return m->code_size / 4; }
-
 /* Puts a word anywhere in a fresh bundle. */
 static int put_word(struct module *m, uint32_t word)
 {
