@@ -52,7 +52,7 @@ pub fn word_refusal(layout: Layout, image: &[u8], i: usize, after: bool, v: View
 }
 
 // A plain word breaks none of 8 to 15 and is no branch: it need not be read.
-pub fn try_word(layout: Layout, image: &[u8], i: usize, after: bool) -> Tried
+fn try_word(layout: Layout, image: &[u8], i: usize, after: bool) -> Tried
     requires { ⌜ Sized layout (now image) × (4 * i + 4 ≤ length (now image)) ⌝ }
     ensures { λ r. ⌜ r ≡ Spec.triedOf layout (now (image .entry)) i after (viewAt (now (image .entry)) i) ⌝ }
 {

@@ -13,6 +13,7 @@ const SYSCALL_0: u32 = 0x0000000C;
 
 const OPCODE_J: u32 = 2;
 
+// Sums are 64 bits wide, so that none wraps, whatever the layout.
 fn is_ahead(layout: Layout, i: u32, target: u32) -> bool
     ensures { λ r. ⌜ r ≡ Spec.isAhead layout i target ⌝ }
 {
@@ -34,7 +35,7 @@ fn is_excused(layout: Layout, i: u32, v: View, target: u32) -> bool
     (v.region & !v.link) & (last_but_one & is_last_bundle(layout, target))
 }
 
-pub fn breaks20(layout: Layout, i: u32, v: View) -> bool
+pub(crate) fn breaks20(layout: Layout, i: u32, v: View) -> bool
     requires { ⌜ layout .«code_base» + 4 * i < 2 ^ 32 ⌝ }
     ensures { λ r. ⌜ r ≡ Spec.broken20 layout i v ⌝ }
 {
@@ -48,12 +49,14 @@ pub fn breaks20(layout: Layout, i: u32, v: View) -> bool
     false
 }
 
+// The word has no other field than its code.
 fn is_syscall0(w: u32) -> bool
     ensures { λ r. ⌜ r ≡ Spec.isSyscall0 w ⌝ }
 {
     w == SYSCALL_0
 }
 
+// J to the last bundle's start, told from the opcode and the index.
 fn is_back(layout: Layout, i: u32, w: u32) -> bool
     requires { ⌜ layout .«code_base» + 4 * i < 2 ^ 32 ⌝ }
     ensures { λ r. ⌜ r ≡ Spec.isBack layout i (wordView w) ⌝ }
@@ -62,7 +65,7 @@ fn is_back(layout: Layout, i: u32, w: u32) -> bool
     (w / 67108864 == OPCODE_J) & is_last_bundle(layout, to)
 }
 
-pub fn breaks21(layout: Layout, image: &[u8]) -> bool
+pub(crate) fn breaks21(layout: Layout, image: &[u8]) -> bool
     requires { ⌜ Sized layout (now image) ⌝ }
     ensures { λ r. ⌜ r ≡ Spec.broken21 layout (now (image .entry)) ⌝ }
 {

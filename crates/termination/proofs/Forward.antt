@@ -1,4 +1,5 @@
--- The invariant of a straight-through module before its first exit: every completed step leads to a later word, and none past the last bundle's start.
+-- The invariant of a straight-through module until it is resumed in its last bundle: every completed step leads to a later word, and none past
+-- that bundle's start.
 use Prim.Native.Nat.{ℕ, _+_, _-_, _*_, _%_, _≤_, _<_}
 use mathlib.Core.Path.{_≡_, refl, sym, ap, subst, _∙_}
 use mathlib.Core.Bool.{not, _&&_, false≢true}
