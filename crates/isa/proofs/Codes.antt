@@ -2,9 +2,10 @@
 use mathlib.Core.Path.{_≡_, refl, subst}
 use mathlib.Core.Bool.{Bool, true, false, cond, not, _&&_}
 use mathlib.Core.List.{List, [], _∷_, map}
-use Prim.Native.Nat.{ℕ, zero, suc, _+_, _*_}
+use Prim.Native.Nat.{ℕ, zero, suc, _+_, _*_, _<_}
 use native.Mathlib.Omega.{arith}
-use lib.Dec.{T, eqb}
+use lib.Dec.{T, eqb, ltb, ltb→lt}
+use borrow.Author.Tests.{eqb-true}
 use Rattle.word.specs.declared.field.Fields.{Fields}
 use Rattle.isa.specs.declared.kind.Alu.the-variants.{Add, Addu, Sub, Subu, Slt, Sltu, And, Or, Xor, Nor}
 use Rattle.isa.specs.declared.kind.Immediate.the-variants.{Addi, Addiu, Slti, Sltiu, Andi, Ori, Xori, Lui}
@@ -54,6 +55,15 @@ pub data Found : Type 0 where
 abbrev pub lookup : List Kind → ℕ → Found
 lookup [] x = nothing
 lookup (k ∷ ks) x = cond (eqb (keyOf k) x) (found k) (lookup ks x)
+
+-- a kind that is found has the key by which it was looked up
+pub lookup-key : (ks : List Kind) (x : ℕ) (k : Kind) → lookup ks x ≡ found k → keyOf k ≡ x
+lookup-key [] x k e = absurd (let z : _≡_ {A = ℕ} 0 1 = cc in omega arith)
+lookup-key (j ∷ ks) x k e = at-head (eqb (keyOf j) x) refl e (lookup-key ks x k)
+  where
+    at-head : (b : Bool) → eqb (keyOf j) x ≡ b → cond b (found j) (lookup ks x) ≡ found k → (lookup ks x ≡ found k → keyOf k ≡ x) → keyOf k ≡ x
+    at-head true h p later = let q : j ≡ k = cc in subst (λ (i : Kind). keyOf i ≡ x) q (eqb-true (keyOf j) x h)
+    at-head false h p later = later p
 
 -- each kind is where its key leads: the one enumeration of the 72
 pub found-self : (k : Kind) → lookup instructions (keyOf k) ≡ found k
@@ -170,3 +180,8 @@ counted (suc k) n = n ∷ counted k (suc n)
 
 pub numbers-in-order : map (λ (k : Kind). rowOf k .number) instructions ≡ counted 72 1
 numbers-in-order = refl
+
+pub numbers : (k : Kind) → (0 < rowOf k .number) × (rowOf k .number < 73)
+numbers k =
+    let h = both (ltb 0 (rowOf k .number)) (ltb (rowOf k .number) 73) (every-kind (λ j. ltb 0 (rowOf j .number) && ltb (rowOf j .number) 73) tt k) in
+    (ltb→lt 0 (rowOf k .number) (h .0), ltb→lt (rowOf k .number) 73 (h .1))

@@ -3,7 +3,7 @@ pub mod Same
 pub mod Roles
 pub mod Drawings
 pub mod ByKey
-pub mod Arms
+pub mod Members
 pub mod Formats
 pub mod RoundTrip
 pub mod Encoding

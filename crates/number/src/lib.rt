@@ -1,5 +1,6 @@
 // Instructions by number: 1 to 72, in the order of document 004, section 1.2.
 ghost use mathlib.Core.Path.{_≡_};
+ghost use Prim.Native.Nat.{_<_, _≤_};
 ghost use Rattle.isa.specs.Table.{aluRow, immediateRow, shiftRow, multiplyRow, accessRow, branchRow, trapRow, systemRow};
 ghost use Rattle.number.specs.Number.{numberOf, kindOf};
 use isa::kind::Access;
@@ -11,6 +12,7 @@ use isa::kind::Multiply;
 use isa::kind::Shift;
 use isa::kind::System;
 use isa::kind::Trap;
+use isa::name;
 
 // The instruction with a number.
 pub enum Numbered {
@@ -22,16 +24,16 @@ fn alu_number(k: Alu) -> u32
     ensures { λ r. ⌜ r ≡ aluRow k .number ⌝ }
 {
     match k {
-        Alu::Add => 1,
-        Alu::Addu => 4,
-        Alu::Sub => 54,
-        Alu::Subu => 55,
-        Alu::Slt => 46,
-        Alu::Sltu => 49,
-        Alu::And => 5,
-        Alu::Or => 38,
-        Alu::Xor => 71,
-        Alu::Nor => 37,
+        Alu::Add => name::ADD,
+        Alu::Addu => name::ADDU,
+        Alu::Sub => name::SUB,
+        Alu::Subu => name::SUBU,
+        Alu::Slt => name::SLT,
+        Alu::Sltu => name::SLTU,
+        Alu::And => name::AND,
+        Alu::Or => name::OR,
+        Alu::Xor => name::XOR,
+        Alu::Nor => name::NOR,
     }
 }
 
@@ -39,14 +41,14 @@ fn immediate_number(k: Immediate) -> u32
     ensures { λ r. ⌜ r ≡ immediateRow k .number ⌝ }
 {
     match k {
-        Immediate::Addi => 2,
-        Immediate::Addiu => 3,
-        Immediate::Slti => 47,
-        Immediate::Sltiu => 48,
-        Immediate::Andi => 6,
-        Immediate::Ori => 39,
-        Immediate::Xori => 72,
-        Immediate::Lui => 27,
+        Immediate::Addi => name::ADDI,
+        Immediate::Addiu => name::ADDIU,
+        Immediate::Slti => name::SLTI,
+        Immediate::Sltiu => name::SLTIU,
+        Immediate::Andi => name::ANDI,
+        Immediate::Ori => name::ORI,
+        Immediate::Xori => name::XORI,
+        Immediate::Lui => name::LUI,
     }
 }
 
@@ -54,12 +56,12 @@ fn shift_number(k: Shift) -> u32
     ensures { λ r. ⌜ r ≡ shiftRow k .number ⌝ }
 {
     match k {
-        Shift::Sll => 44,
-        Shift::Srl => 52,
-        Shift::Sra => 50,
-        Shift::Sllv => 45,
-        Shift::Srlv => 53,
-        Shift::Srav => 51,
+        Shift::Sll => name::SLL,
+        Shift::Srl => name::SRL,
+        Shift::Sra => name::SRA,
+        Shift::Sllv => name::SLLV,
+        Shift::Srlv => name::SRLV,
+        Shift::Srav => name::SRAV,
     }
 }
 
@@ -67,14 +69,14 @@ fn multiply_number(k: Multiply) -> u32
     ensures { λ r. ⌜ r ≡ multiplyRow k .number ⌝ }
 {
     match k {
-        Multiply::Mult => 35,
-        Multiply::Multu => 36,
-        Multiply::Div => 16,
-        Multiply::Divu => 17,
-        Multiply::Mfhi => 30,
-        Multiply::Mthi => 33,
-        Multiply::Mflo => 31,
-        Multiply::Mtlo => 34,
+        Multiply::Mult => name::MULT,
+        Multiply::Multu => name::MULTU,
+        Multiply::Div => name::DIV,
+        Multiply::Divu => name::DIVU,
+        Multiply::Mfhi => name::MFHI,
+        Multiply::Mthi => name::MTHI,
+        Multiply::Mflo => name::MFLO,
+        Multiply::Mtlo => name::MTLO,
     }
 }
 
@@ -82,16 +84,16 @@ fn access_number(k: Access) -> u32
     ensures { λ r. ⌜ r ≡ accessRow k .number ⌝ }
 {
     match k {
-        Access::Lb => 22,
-        Access::Lbu => 23,
-        Access::Sb => 41,
-        Access::Lh => 24,
-        Access::Lhu => 25,
-        Access::Sh => 43,
-        Access::Lw => 28,
-        Access::Sw => 56,
-        Access::Ll => 26,
-        Access::Sc => 42,
+        Access::Lb => name::LB,
+        Access::Lbu => name::LBU,
+        Access::Sb => name::SB,
+        Access::Lh => name::LH,
+        Access::Lhu => name::LHU,
+        Access::Sh => name::SH,
+        Access::Lw => name::LW,
+        Access::Sw => name::SW,
+        Access::Ll => name::LL,
+        Access::Sc => name::SC,
     }
 }
 
@@ -99,18 +101,18 @@ fn branch_number(k: Branch) -> u32
     ensures { λ r. ⌜ r ≡ branchRow k .number ⌝ }
 {
     match k {
-        Branch::J => 18,
-        Branch::Jal => 19,
-        Branch::Jr => 21,
-        Branch::Jalr => 20,
-        Branch::Beq => 7,
-        Branch::Bne => 14,
-        Branch::Blez => 11,
-        Branch::Bgtz => 10,
-        Branch::Bltz => 12,
-        Branch::Bgez => 8,
-        Branch::Bltzal => 13,
-        Branch::Bgezal => 9,
+        Branch::J => name::J,
+        Branch::Jal => name::JAL,
+        Branch::Jr => name::JR,
+        Branch::Jalr => name::JALR,
+        Branch::Beq => name::BEQ,
+        Branch::Bne => name::BNE,
+        Branch::Blez => name::BLEZ,
+        Branch::Bgtz => name::BGTZ,
+        Branch::Bltz => name::BLTZ,
+        Branch::Bgez => name::BGEZ,
+        Branch::Bltzal => name::BLTZAL,
+        Branch::Bgezal => name::BGEZAL,
     }
 }
 
@@ -118,18 +120,18 @@ fn trap_number(k: Trap) -> u32
     ensures { λ r. ⌜ r ≡ trapRow k .number ⌝ }
 {
     match k {
-        Trap::Tge => 61,
-        Trap::Tgeu => 64,
-        Trap::Tlt => 65,
-        Trap::Tltu => 68,
-        Trap::Teq => 59,
-        Trap::Tne => 69,
-        Trap::Tgei => 62,
-        Trap::Tgeiu => 63,
-        Trap::Tlti => 66,
-        Trap::Tltiu => 67,
-        Trap::Teqi => 60,
-        Trap::Tnei => 70,
+        Trap::Tge => name::TGE,
+        Trap::Tgeu => name::TGEU,
+        Trap::Tlt => name::TLT,
+        Trap::Tltu => name::TLTU,
+        Trap::Teq => name::TEQ,
+        Trap::Tne => name::TNE,
+        Trap::Tgei => name::TGEI,
+        Trap::Tgeiu => name::TGEIU,
+        Trap::Tlti => name::TLTI,
+        Trap::Tltiu => name::TLTIU,
+        Trap::Teqi => name::TEQI,
+        Trap::Tnei => name::TNEI,
     }
 }
 
@@ -137,12 +139,12 @@ fn system_number(k: System) -> u32
     ensures { λ r. ⌜ r ≡ systemRow k .number ⌝ }
 {
     match k {
-        System::Syscall => 58,
-        System::Break => 15,
-        System::Rfe => 40,
-        System::Mfc0 => 29,
-        System::Mtc0 => 32,
-        System::Sync => 57,
+        System::Syscall => name::SYSCALL,
+        System::Break => name::BREAK,
+        System::Rfe => name::RFE,
+        System::Mfc0 => name::MFC0,
+        System::Mtc0 => name::MTC0,
+        System::Sync => name::SYNC,
     }
 }
 
@@ -161,82 +163,104 @@ pub fn number_of(k: Kind) -> u32
     }
 }
 
-pub fn kind_of(n: u32) -> Numbered
+// ADD to MULTU.
+fn first_half(n: u32) -> Numbered
+    requires { ⌜ n ≤ 36 ⌝ }
     ensures { λ r. ⌜ r ≡ kindOf n ⌝ }
 {
     match n {
-        1 => Numbered::Known(Kind::Alu(Alu::Add)),
-        2 => Numbered::Known(Kind::Immediate(Immediate::Addi)),
-        3 => Numbered::Known(Kind::Immediate(Immediate::Addiu)),
-        4 => Numbered::Known(Kind::Alu(Alu::Addu)),
-        5 => Numbered::Known(Kind::Alu(Alu::And)),
-        6 => Numbered::Known(Kind::Immediate(Immediate::Andi)),
-        7 => Numbered::Known(Kind::Branch(Branch::Beq)),
-        8 => Numbered::Known(Kind::Branch(Branch::Bgez)),
-        9 => Numbered::Known(Kind::Branch(Branch::Bgezal)),
-        10 => Numbered::Known(Kind::Branch(Branch::Bgtz)),
-        11 => Numbered::Known(Kind::Branch(Branch::Blez)),
-        12 => Numbered::Known(Kind::Branch(Branch::Bltz)),
-        13 => Numbered::Known(Kind::Branch(Branch::Bltzal)),
-        14 => Numbered::Known(Kind::Branch(Branch::Bne)),
-        15 => Numbered::Known(Kind::System(System::Break)),
-        16 => Numbered::Known(Kind::Multiply(Multiply::Div)),
-        17 => Numbered::Known(Kind::Multiply(Multiply::Divu)),
-        18 => Numbered::Known(Kind::Branch(Branch::J)),
-        19 => Numbered::Known(Kind::Branch(Branch::Jal)),
-        20 => Numbered::Known(Kind::Branch(Branch::Jalr)),
-        21 => Numbered::Known(Kind::Branch(Branch::Jr)),
-        22 => Numbered::Known(Kind::Access(Access::Lb)),
-        23 => Numbered::Known(Kind::Access(Access::Lbu)),
-        24 => Numbered::Known(Kind::Access(Access::Lh)),
-        25 => Numbered::Known(Kind::Access(Access::Lhu)),
-        26 => Numbered::Known(Kind::Access(Access::Ll)),
-        27 => Numbered::Known(Kind::Immediate(Immediate::Lui)),
-        28 => Numbered::Known(Kind::Access(Access::Lw)),
-        29 => Numbered::Known(Kind::System(System::Mfc0)),
-        30 => Numbered::Known(Kind::Multiply(Multiply::Mfhi)),
-        31 => Numbered::Known(Kind::Multiply(Multiply::Mflo)),
-        32 => Numbered::Known(Kind::System(System::Mtc0)),
-        33 => Numbered::Known(Kind::Multiply(Multiply::Mthi)),
-        34 => Numbered::Known(Kind::Multiply(Multiply::Mtlo)),
-        35 => Numbered::Known(Kind::Multiply(Multiply::Mult)),
-        36 => Numbered::Known(Kind::Multiply(Multiply::Multu)),
-        37 => Numbered::Known(Kind::Alu(Alu::Nor)),
-        38 => Numbered::Known(Kind::Alu(Alu::Or)),
-        39 => Numbered::Known(Kind::Immediate(Immediate::Ori)),
-        40 => Numbered::Known(Kind::System(System::Rfe)),
-        41 => Numbered::Known(Kind::Access(Access::Sb)),
-        42 => Numbered::Known(Kind::Access(Access::Sc)),
-        43 => Numbered::Known(Kind::Access(Access::Sh)),
-        44 => Numbered::Known(Kind::Shift(Shift::Sll)),
-        45 => Numbered::Known(Kind::Shift(Shift::Sllv)),
-        46 => Numbered::Known(Kind::Alu(Alu::Slt)),
-        47 => Numbered::Known(Kind::Immediate(Immediate::Slti)),
-        48 => Numbered::Known(Kind::Immediate(Immediate::Sltiu)),
-        49 => Numbered::Known(Kind::Alu(Alu::Sltu)),
-        50 => Numbered::Known(Kind::Shift(Shift::Sra)),
-        51 => Numbered::Known(Kind::Shift(Shift::Srav)),
-        52 => Numbered::Known(Kind::Shift(Shift::Srl)),
-        53 => Numbered::Known(Kind::Shift(Shift::Srlv)),
-        54 => Numbered::Known(Kind::Alu(Alu::Sub)),
-        55 => Numbered::Known(Kind::Alu(Alu::Subu)),
-        56 => Numbered::Known(Kind::Access(Access::Sw)),
-        57 => Numbered::Known(Kind::System(System::Sync)),
-        58 => Numbered::Known(Kind::System(System::Syscall)),
-        59 => Numbered::Known(Kind::Trap(Trap::Teq)),
-        60 => Numbered::Known(Kind::Trap(Trap::Teqi)),
-        61 => Numbered::Known(Kind::Trap(Trap::Tge)),
-        62 => Numbered::Known(Kind::Trap(Trap::Tgei)),
-        63 => Numbered::Known(Kind::Trap(Trap::Tgeiu)),
-        64 => Numbered::Known(Kind::Trap(Trap::Tgeu)),
-        65 => Numbered::Known(Kind::Trap(Trap::Tlt)),
-        66 => Numbered::Known(Kind::Trap(Trap::Tlti)),
-        67 => Numbered::Known(Kind::Trap(Trap::Tltiu)),
-        68 => Numbered::Known(Kind::Trap(Trap::Tltu)),
-        69 => Numbered::Known(Kind::Trap(Trap::Tne)),
-        70 => Numbered::Known(Kind::Trap(Trap::Tnei)),
-        71 => Numbered::Known(Kind::Alu(Alu::Xor)),
-        72 => Numbered::Known(Kind::Immediate(Immediate::Xori)),
+        name::ADD => Numbered::Known(Kind::Alu(Alu::Add)),
+        name::ADDI => Numbered::Known(Kind::Immediate(Immediate::Addi)),
+        name::ADDIU => Numbered::Known(Kind::Immediate(Immediate::Addiu)),
+        name::ADDU => Numbered::Known(Kind::Alu(Alu::Addu)),
+        name::AND => Numbered::Known(Kind::Alu(Alu::And)),
+        name::ANDI => Numbered::Known(Kind::Immediate(Immediate::Andi)),
+        name::BEQ => Numbered::Known(Kind::Branch(Branch::Beq)),
+        name::BGEZ => Numbered::Known(Kind::Branch(Branch::Bgez)),
+        name::BGEZAL => Numbered::Known(Kind::Branch(Branch::Bgezal)),
+        name::BGTZ => Numbered::Known(Kind::Branch(Branch::Bgtz)),
+        name::BLEZ => Numbered::Known(Kind::Branch(Branch::Blez)),
+        name::BLTZ => Numbered::Known(Kind::Branch(Branch::Bltz)),
+        name::BLTZAL => Numbered::Known(Kind::Branch(Branch::Bltzal)),
+        name::BNE => Numbered::Known(Kind::Branch(Branch::Bne)),
+        name::BREAK => Numbered::Known(Kind::System(System::Break)),
+        name::DIV => Numbered::Known(Kind::Multiply(Multiply::Div)),
+        name::DIVU => Numbered::Known(Kind::Multiply(Multiply::Divu)),
+        name::J => Numbered::Known(Kind::Branch(Branch::J)),
+        name::JAL => Numbered::Known(Kind::Branch(Branch::Jal)),
+        name::JALR => Numbered::Known(Kind::Branch(Branch::Jalr)),
+        name::JR => Numbered::Known(Kind::Branch(Branch::Jr)),
+        name::LB => Numbered::Known(Kind::Access(Access::Lb)),
+        name::LBU => Numbered::Known(Kind::Access(Access::Lbu)),
+        name::LH => Numbered::Known(Kind::Access(Access::Lh)),
+        name::LHU => Numbered::Known(Kind::Access(Access::Lhu)),
+        name::LL => Numbered::Known(Kind::Access(Access::Ll)),
+        name::LUI => Numbered::Known(Kind::Immediate(Immediate::Lui)),
+        name::LW => Numbered::Known(Kind::Access(Access::Lw)),
+        name::MFC0 => Numbered::Known(Kind::System(System::Mfc0)),
+        name::MFHI => Numbered::Known(Kind::Multiply(Multiply::Mfhi)),
+        name::MFLO => Numbered::Known(Kind::Multiply(Multiply::Mflo)),
+        name::MTC0 => Numbered::Known(Kind::System(System::Mtc0)),
+        name::MTHI => Numbered::Known(Kind::Multiply(Multiply::Mthi)),
+        name::MTLO => Numbered::Known(Kind::Multiply(Multiply::Mtlo)),
+        name::MULT => Numbered::Known(Kind::Multiply(Multiply::Mult)),
+        name::MULTU => Numbered::Known(Kind::Multiply(Multiply::Multu)),
         _ => Numbered::Unknown,
+    }
+}
+
+// NOR to XORI.
+fn second_half(n: u32) -> Numbered
+    requires { ⌜ 36 < n ⌝ }
+    ensures { λ r. ⌜ r ≡ kindOf n ⌝ }
+{
+    match n {
+        name::NOR => Numbered::Known(Kind::Alu(Alu::Nor)),
+        name::OR => Numbered::Known(Kind::Alu(Alu::Or)),
+        name::ORI => Numbered::Known(Kind::Immediate(Immediate::Ori)),
+        name::RFE => Numbered::Known(Kind::System(System::Rfe)),
+        name::SB => Numbered::Known(Kind::Access(Access::Sb)),
+        name::SC => Numbered::Known(Kind::Access(Access::Sc)),
+        name::SH => Numbered::Known(Kind::Access(Access::Sh)),
+        name::SLL => Numbered::Known(Kind::Shift(Shift::Sll)),
+        name::SLLV => Numbered::Known(Kind::Shift(Shift::Sllv)),
+        name::SLT => Numbered::Known(Kind::Alu(Alu::Slt)),
+        name::SLTI => Numbered::Known(Kind::Immediate(Immediate::Slti)),
+        name::SLTIU => Numbered::Known(Kind::Immediate(Immediate::Sltiu)),
+        name::SLTU => Numbered::Known(Kind::Alu(Alu::Sltu)),
+        name::SRA => Numbered::Known(Kind::Shift(Shift::Sra)),
+        name::SRAV => Numbered::Known(Kind::Shift(Shift::Srav)),
+        name::SRL => Numbered::Known(Kind::Shift(Shift::Srl)),
+        name::SRLV => Numbered::Known(Kind::Shift(Shift::Srlv)),
+        name::SUB => Numbered::Known(Kind::Alu(Alu::Sub)),
+        name::SUBU => Numbered::Known(Kind::Alu(Alu::Subu)),
+        name::SW => Numbered::Known(Kind::Access(Access::Sw)),
+        name::SYNC => Numbered::Known(Kind::System(System::Sync)),
+        name::SYSCALL => Numbered::Known(Kind::System(System::Syscall)),
+        name::TEQ => Numbered::Known(Kind::Trap(Trap::Teq)),
+        name::TEQI => Numbered::Known(Kind::Trap(Trap::Teqi)),
+        name::TGE => Numbered::Known(Kind::Trap(Trap::Tge)),
+        name::TGEI => Numbered::Known(Kind::Trap(Trap::Tgei)),
+        name::TGEIU => Numbered::Known(Kind::Trap(Trap::Tgeiu)),
+        name::TGEU => Numbered::Known(Kind::Trap(Trap::Tgeu)),
+        name::TLT => Numbered::Known(Kind::Trap(Trap::Tlt)),
+        name::TLTI => Numbered::Known(Kind::Trap(Trap::Tlti)),
+        name::TLTIU => Numbered::Known(Kind::Trap(Trap::Tltiu)),
+        name::TLTU => Numbered::Known(Kind::Trap(Trap::Tltu)),
+        name::TNE => Numbered::Known(Kind::Trap(Trap::Tne)),
+        name::TNEI => Numbered::Known(Kind::Trap(Trap::Tnei)),
+        name::XOR => Numbered::Known(Kind::Alu(Alu::Xor)),
+        name::XORI => Numbered::Known(Kind::Immediate(Immediate::Xori)),
+        _ => Numbered::Unknown,
+    }
+}
+
+pub fn kind_of(n: u32) -> Numbered
+    ensures { λ r. ⌜ r ≡ kindOf n ⌝ }
+{
+    if n <= 36 {
+        first_half(n)
+    } else {
+        second_half(n)
     }
 }

@@ -26,7 +26,7 @@ use Rattle.isa.proofs.Same.{is, same-kind, same-test}
 use Rattle.isa.proofs.Roles.{is-true}
 use Rattle.isa.proofs.Drawings.{matched}
 use Rattle.isa.proofs.ByKey.{not-so, came, read-fits}
-use Rattle.isa.proofs.Arms.{split-or}
+use Rattle.isa.proofs.Members.{split-or}
 use Rattle.view.specs.View.{isRegion, isRegister, seen, viewOf, wordView, isJump, needsGuard}
 use Rattle.view.specs.Guard.{isMask, isMerge, masks, merges, isMaskOf, maskIn, isMergeOf}
 use Rattle.quick.specs.Set.{isIn}

@@ -1,10 +1,11 @@
-// A word read: the tables of codes, and for each format the test of the bits that must be zero and the operands.
+// A word read: its entry in the tables, and for each format the test of the bits that must be zero and the operands.
 ghost use mathlib.Core.Path.{_≡_};
-ghost use Prim.Native.Nat.{_+_, _*_, _^_};
+ghost use Prim.Native.Nat.{_+_, _*_, _^_, _<_, _≤_};
 ghost use Rattle.word.specs.Field.{cutOf, Fit};
 ghost use Rattle.isa.specs.Table.{rowOf};
-ghost use Rattle.isa.specs.Reading.{made, legalIf, readAs, readFields, readOf};
+ghost use Rattle.isa.specs.Reading.{made, legalIf, readOf};
 ghost use Rattle.isa.specs.declared.format.Format.the-variants as F;
+ghost use Rattle.table.specs.Tables.{entryOf};
 use isa::kind::Access;
 use isa::kind::Alu;
 use isa::kind::Branch;
@@ -15,6 +16,7 @@ use isa::kind::Multiply;
 use isa::kind::Shift;
 use isa::kind::System;
 use isa::kind::Trap;
+use isa::name;
 use isa::reading::Reading;
 use word::field::Fields;
 
@@ -81,24 +83,24 @@ fn legal_if(test: bool, i: Instruction) -> Reading
 // ---- one function for each format: the bits that must be zero, and the operands
 
 fn three_registers(k: Kind, w: u32) -> Reading
-    requires { ⌜ (rowOf k .format ≡ F.ThreeRegisters) × (cutOf w .op ≡ 0) × (cutOf w .funct ≡ rowOf k .code) ⌝ }
-    ensures { λ r. ⌜ r ≡ readAs k (cutOf w) ⌝ }
+    requires { ⌜ (rowOf k .format ≡ F.ThreeRegisters) × (entryOf (cutOf w) ≡ rowOf k .number) ⌝ }
+    ensures { λ r. ⌜ r ≡ readOf w ⌝ }
 {
     let f = word::field::cut(w);
     legal_if(f.shift == 0, instruction(k, f.rs, f.rt, f.rd, 0, 0))
 }
 
 fn shift_amount(k: Kind, w: u32) -> Reading
-    requires { ⌜ (rowOf k .format ≡ F.ShiftAmount) × (cutOf w .op ≡ 0) × (cutOf w .funct ≡ rowOf k .code) ⌝ }
-    ensures { λ r. ⌜ r ≡ readAs k (cutOf w) ⌝ }
+    requires { ⌜ (rowOf k .format ≡ F.ShiftAmount) × (entryOf (cutOf w) ≡ rowOf k .number) ⌝ }
+    ensures { λ r. ⌜ r ≡ readOf w ⌝ }
 {
     let f = word::field::cut(w);
     legal_if(f.rs == 0, instruction(k, 0, f.rt, f.rd, f.shift, 0))
 }
 
 fn two_sources(k: Kind, w: u32) -> Reading
-    requires { ⌜ (rowOf k .format ≡ F.TwoSources) × (cutOf w .op ≡ 0) × (cutOf w .funct ≡ rowOf k .code) ⌝ }
-    ensures { λ r. ⌜ r ≡ readAs k (cutOf w) ⌝ }
+    requires { ⌜ (rowOf k .format ≡ F.TwoSources) × (entryOf (cutOf w) ≡ rowOf k .number) ⌝ }
+    ensures { λ r. ⌜ r ≡ readOf w ⌝ }
 {
     let f = word::field::cut(w);
     legal_if(
@@ -108,8 +110,8 @@ fn two_sources(k: Kind, w: u32) -> Reading
 }
 
 fn one_source(k: Kind, w: u32) -> Reading
-    requires { ⌜ (rowOf k .format ≡ F.OneSource) × (cutOf w .op ≡ 0) × (cutOf w .funct ≡ rowOf k .code) ⌝ }
-    ensures { λ r. ⌜ r ≡ readAs k (cutOf w) ⌝ }
+    requires { ⌜ (rowOf k .format ≡ F.OneSource) × (entryOf (cutOf w) ≡ rowOf k .number) ⌝ }
+    ensures { λ r. ⌜ r ≡ readOf w ⌝ }
 {
     let f = word::field::cut(w);
     legal_if(
@@ -119,8 +121,8 @@ fn one_source(k: Kind, w: u32) -> Reading
 }
 
 fn one_target(k: Kind, w: u32) -> Reading
-    requires { ⌜ (rowOf k .format ≡ F.OneTarget) × (cutOf w .op ≡ 0) × (cutOf w .funct ≡ rowOf k .code) ⌝ }
-    ensures { λ r. ⌜ r ≡ readAs k (cutOf w) ⌝ }
+    requires { ⌜ (rowOf k .format ≡ F.OneTarget) × (entryOf (cutOf w) ≡ rowOf k .number) ⌝ }
+    ensures { λ r. ⌜ r ≡ readOf w ⌝ }
 {
     let f = word::field::cut(w);
     legal_if(
@@ -130,8 +132,8 @@ fn one_target(k: Kind, w: u32) -> Reading
 }
 
 fn source_target(k: Kind, w: u32) -> Reading
-    requires { ⌜ (rowOf k .format ≡ F.SourceTarget) × (cutOf w .op ≡ 0) × (cutOf w .funct ≡ rowOf k .code) ⌝ }
-    ensures { λ r. ⌜ r ≡ readAs k (cutOf w) ⌝ }
+    requires { ⌜ (rowOf k .format ≡ F.SourceTarget) × (entryOf (cutOf w) ≡ rowOf k .number) ⌝ }
+    ensures { λ r. ⌜ r ≡ readOf w ⌝ }
 {
     let f = word::field::cut(w);
     legal_if(
@@ -141,16 +143,16 @@ fn source_target(k: Kind, w: u32) -> Reading
 }
 
 fn system_code(k: Kind, w: u32) -> Reading
-    requires { ⌜ (rowOf k .format ≡ F.SystemCode) × (cutOf w .op ≡ 0) × (cutOf w .funct ≡ rowOf k .code) ⌝ }
-    ensures { λ r. ⌜ r ≡ readAs k (cutOf w) ⌝ }
+    requires { ⌜ (rowOf k .format ≡ F.SystemCode) × (entryOf (cutOf w) ≡ rowOf k .number) ⌝ }
+    ensures { λ r. ⌜ r ≡ readOf w ⌝ }
 {
     let f = word::field::cut(w);
     Reading::Legal(instruction(k, 0, 0, 0, 0, middle20(f)))
 }
 
 fn barrier(k: Kind, w: u32) -> Reading
-    requires { ⌜ (rowOf k .format ≡ F.Barrier) × (cutOf w .op ≡ 0) × (cutOf w .funct ≡ rowOf k .code) ⌝ }
-    ensures { λ r. ⌜ r ≡ readAs k (cutOf w) ⌝ }
+    requires { ⌜ (rowOf k .format ≡ F.Barrier) × (entryOf (cutOf w) ≡ rowOf k .number) ⌝ }
+    ensures { λ r. ⌜ r ≡ readOf w ⌝ }
 {
     let f = word::field::cut(w);
     legal_if(
@@ -160,56 +162,56 @@ fn barrier(k: Kind, w: u32) -> Reading
 }
 
 fn trap_code(k: Kind, w: u32) -> Reading
-    requires { ⌜ (rowOf k .format ≡ F.TrapCode) × (cutOf w .op ≡ 0) × (cutOf w .funct ≡ rowOf k .code) ⌝ }
-    ensures { λ r. ⌜ r ≡ readAs k (cutOf w) ⌝ }
+    requires { ⌜ (rowOf k .format ≡ F.TrapCode) × (entryOf (cutOf w) ≡ rowOf k .number) ⌝ }
+    ensures { λ r. ⌜ r ≡ readOf w ⌝ }
 {
     let f = word::field::cut(w);
     Reading::Legal(instruction(k, f.rs, f.rt, 0, 0, middle10(f)))
 }
 
 fn condition(k: Kind, w: u32) -> Reading
-    requires { ⌜ (rowOf k .format ≡ F.Condition) × (cutOf w .op ≡ 1) × (cutOf w .rt ≡ rowOf k .code) ⌝ }
-    ensures { λ r. ⌜ r ≡ readAs k (cutOf w) ⌝ }
+    requires { ⌜ (rowOf k .format ≡ F.Condition) × (entryOf (cutOf w) ≡ rowOf k .number) ⌝ }
+    ensures { λ r. ⌜ r ≡ readOf w ⌝ }
 {
     let f = word::field::cut(w);
     Reading::Legal(instruction(k, f.rs, 0, 0, 0, low16(f)))
 }
 
 fn jump_index(k: Kind, w: u32) -> Reading
-    requires { ⌜ (rowOf k .format ≡ F.JumpIndex) × (cutOf w .op ≡ rowOf k .code) ⌝ }
-    ensures { λ r. ⌜ r ≡ readAs k (cutOf w) ⌝ }
+    requires { ⌜ (rowOf k .format ≡ F.JumpIndex) × (entryOf (cutOf w) ≡ rowOf k .number) ⌝ }
+    ensures { λ r. ⌜ r ≡ readOf w ⌝ }
 {
     let f = word::field::cut(w);
     Reading::Legal(instruction(k, 0, 0, 0, 0, low26(f)))
 }
 
 fn constant(k: Kind, w: u32) -> Reading
-    requires { ⌜ (rowOf k .format ≡ F.Constant) × (cutOf w .op ≡ rowOf k .code) ⌝ }
-    ensures { λ r. ⌜ r ≡ readAs k (cutOf w) ⌝ }
+    requires { ⌜ (rowOf k .format ≡ F.Constant) × (entryOf (cutOf w) ≡ rowOf k .number) ⌝ }
+    ensures { λ r. ⌜ r ≡ readOf w ⌝ }
 {
     let f = word::field::cut(w);
     Reading::Legal(instruction(k, f.rs, f.rt, 0, 0, low16(f)))
 }
 
 fn branch_zero(k: Kind, w: u32) -> Reading
-    requires { ⌜ (rowOf k .format ≡ F.BranchZero) × (cutOf w .op ≡ rowOf k .code) ⌝ }
-    ensures { λ r. ⌜ r ≡ readAs k (cutOf w) ⌝ }
+    requires { ⌜ (rowOf k .format ≡ F.BranchZero) × (entryOf (cutOf w) ≡ rowOf k .number) ⌝ }
+    ensures { λ r. ⌜ r ≡ readOf w ⌝ }
 {
     let f = word::field::cut(w);
     legal_if(f.rt == 0, instruction(k, f.rs, 0, 0, 0, low16(f)))
 }
 
 fn upper_constant(k: Kind, w: u32) -> Reading
-    requires { ⌜ (rowOf k .format ≡ F.UpperConstant) × (cutOf w .op ≡ rowOf k .code) ⌝ }
-    ensures { λ r. ⌜ r ≡ readAs k (cutOf w) ⌝ }
+    requires { ⌜ (rowOf k .format ≡ F.UpperConstant) × (entryOf (cutOf w) ≡ rowOf k .number) ⌝ }
+    ensures { λ r. ⌜ r ≡ readOf w ⌝ }
 {
     let f = word::field::cut(w);
     legal_if(f.rs == 0, instruction(k, 0, f.rt, 0, 0, low16(f)))
 }
 
 fn control_move(k: Kind, w: u32) -> Reading
-    requires { ⌜ (rowOf k .format ≡ F.ControlMove) × (cutOf w .op ≡ 16) × (cutOf w .rs ≡ rowOf k .code) ⌝ }
-    ensures { λ r. ⌜ r ≡ readAs k (cutOf w) ⌝ }
+    requires { ⌜ (rowOf k .format ≡ F.ControlMove) × (entryOf (cutOf w) ≡ rowOf k .number) ⌝ }
+    ensures { λ r. ⌜ r ≡ readOf w ⌝ }
 {
     let f = word::field::cut(w);
     legal_if(
@@ -219,8 +221,8 @@ fn control_move(k: Kind, w: u32) -> Reading
 }
 
 fn exception_return(k: Kind, w: u32) -> Reading
-    requires { ⌜ (rowOf k .format ≡ F.ExceptionReturn) × (cutOf w .op ≡ 16) × (cutOf w .rs ≡ rowOf k .code) ⌝ }
-    ensures { λ r. ⌜ r ≡ readAs k (cutOf w) ⌝ }
+    requires { ⌜ (rowOf k .format ≡ F.ExceptionReturn) × (entryOf (cutOf w) ≡ rowOf k .number) ⌝ }
+    ensures { λ r. ⌜ r ≡ readOf w ⌝ }
 {
     let f = word::field::cut(w);
     legal_if(
@@ -229,85 +231,96 @@ fn exception_return(k: Kind, w: u32) -> Reading
     )
 }
 
-// ---- one line for each instruction: the tables of codes
+// ---- one line for each instruction: what its entry leads to
 
-// Opcode SPECIAL: told by the function field.
-fn special(w: u32) -> Reading
-    requires { ⌜ cutOf w .op ≡ 0 ⌝ }
-    ensures { λ r. ⌜ r ≡ readFields (cutOf w) ⌝ }
+// ADD to MULTU.
+fn first_half(e: u32, w: u32) -> Reading
+    requires { ⌜ (e ≡ entryOf (cutOf w)) × (e ≤ 36) ⌝ }
+    ensures { λ r. ⌜ r ≡ readOf w ⌝ }
 {
-    let code = word::field::funct(w);
-    match code {
-        0b000000 => shift_amount(Kind::Shift(Shift::Sll), w),
-        0b000010 => shift_amount(Kind::Shift(Shift::Srl), w),
-        0b000011 => shift_amount(Kind::Shift(Shift::Sra), w),
-        0b000100 => three_registers(Kind::Shift(Shift::Sllv), w),
-        0b000110 => three_registers(Kind::Shift(Shift::Srlv), w),
-        0b000111 => three_registers(Kind::Shift(Shift::Srav), w),
-        0b001000 => one_source(Kind::Branch(Branch::Jr), w),
-        0b001001 => source_target(Kind::Branch(Branch::Jalr), w),
-        0b001100 => system_code(Kind::System(System::Syscall), w),
-        0b001101 => system_code(Kind::System(System::Break), w),
-        0b001111 => barrier(Kind::System(System::Sync), w),
-        0b010000 => one_target(Kind::Multiply(Multiply::Mfhi), w),
-        0b010001 => one_source(Kind::Multiply(Multiply::Mthi), w),
-        0b010010 => one_target(Kind::Multiply(Multiply::Mflo), w),
-        0b010011 => one_source(Kind::Multiply(Multiply::Mtlo), w),
-        0b011000 => two_sources(Kind::Multiply(Multiply::Mult), w),
-        0b011001 => two_sources(Kind::Multiply(Multiply::Multu), w),
-        0b011010 => two_sources(Kind::Multiply(Multiply::Div), w),
-        0b011011 => two_sources(Kind::Multiply(Multiply::Divu), w),
-        0b100000 => three_registers(Kind::Alu(Alu::Add), w),
-        0b100001 => three_registers(Kind::Alu(Alu::Addu), w),
-        0b100010 => three_registers(Kind::Alu(Alu::Sub), w),
-        0b100011 => three_registers(Kind::Alu(Alu::Subu), w),
-        0b100100 => three_registers(Kind::Alu(Alu::And), w),
-        0b100101 => three_registers(Kind::Alu(Alu::Or), w),
-        0b100110 => three_registers(Kind::Alu(Alu::Xor), w),
-        0b100111 => three_registers(Kind::Alu(Alu::Nor), w),
-        0b101010 => three_registers(Kind::Alu(Alu::Slt), w),
-        0b101011 => three_registers(Kind::Alu(Alu::Sltu), w),
-        0b110000 => trap_code(Kind::Trap(Trap::Tge), w),
-        0b110001 => trap_code(Kind::Trap(Trap::Tgeu), w),
-        0b110010 => trap_code(Kind::Trap(Trap::Tlt), w),
-        0b110011 => trap_code(Kind::Trap(Trap::Tltu), w),
-        0b110100 => trap_code(Kind::Trap(Trap::Teq), w),
-        0b110110 => trap_code(Kind::Trap(Trap::Tne), w),
+    match e {
+        name::ADD => three_registers(Kind::Alu(Alu::Add), w),
+        name::ADDI => constant(Kind::Immediate(Immediate::Addi), w),
+        name::ADDIU => constant(Kind::Immediate(Immediate::Addiu), w),
+        name::ADDU => three_registers(Kind::Alu(Alu::Addu), w),
+        name::AND => three_registers(Kind::Alu(Alu::And), w),
+        name::ANDI => constant(Kind::Immediate(Immediate::Andi), w),
+        name::BEQ => constant(Kind::Branch(Branch::Beq), w),
+        name::BGEZ => condition(Kind::Branch(Branch::Bgez), w),
+        name::BGEZAL => condition(Kind::Branch(Branch::Bgezal), w),
+        name::BGTZ => branch_zero(Kind::Branch(Branch::Bgtz), w),
+        name::BLEZ => branch_zero(Kind::Branch(Branch::Blez), w),
+        name::BLTZ => condition(Kind::Branch(Branch::Bltz), w),
+        name::BLTZAL => condition(Kind::Branch(Branch::Bltzal), w),
+        name::BNE => constant(Kind::Branch(Branch::Bne), w),
+        name::BREAK => system_code(Kind::System(System::Break), w),
+        name::DIV => two_sources(Kind::Multiply(Multiply::Div), w),
+        name::DIVU => two_sources(Kind::Multiply(Multiply::Divu), w),
+        name::J => jump_index(Kind::Branch(Branch::J), w),
+        name::JAL => jump_index(Kind::Branch(Branch::Jal), w),
+        name::JALR => source_target(Kind::Branch(Branch::Jalr), w),
+        name::JR => one_source(Kind::Branch(Branch::Jr), w),
+        name::LB => constant(Kind::Access(Access::Lb), w),
+        name::LBU => constant(Kind::Access(Access::Lbu), w),
+        name::LH => constant(Kind::Access(Access::Lh), w),
+        name::LHU => constant(Kind::Access(Access::Lhu), w),
+        name::LL => constant(Kind::Access(Access::Ll), w),
+        name::LUI => upper_constant(Kind::Immediate(Immediate::Lui), w),
+        name::LW => constant(Kind::Access(Access::Lw), w),
+        name::MFC0 => control_move(Kind::System(System::Mfc0), w),
+        name::MFHI => one_target(Kind::Multiply(Multiply::Mfhi), w),
+        name::MFLO => one_target(Kind::Multiply(Multiply::Mflo), w),
+        name::MTC0 => control_move(Kind::System(System::Mtc0), w),
+        name::MTHI => one_source(Kind::Multiply(Multiply::Mthi), w),
+        name::MTLO => one_source(Kind::Multiply(Multiply::Mtlo), w),
+        name::MULT => two_sources(Kind::Multiply(Multiply::Mult), w),
+        name::MULTU => two_sources(Kind::Multiply(Multiply::Multu), w),
         _ => Reading::NoInstruction,
     }
 }
 
-// Opcode REGIMM: told by the field rt.
-fn regimm(w: u32) -> Reading
-    requires { ⌜ cutOf w .op ≡ 1 ⌝ }
-    ensures { λ r. ⌜ r ≡ readFields (cutOf w) ⌝ }
+// NOR to XORI.
+fn second_half(e: u32, w: u32) -> Reading
+    requires { ⌜ (e ≡ entryOf (cutOf w)) × (36 < e) ⌝ }
+    ensures { λ r. ⌜ r ≡ readOf w ⌝ }
 {
-    let code = word::field::rt(w);
-    match code {
-        0b00000 => condition(Kind::Branch(Branch::Bltz), w),
-        0b00001 => condition(Kind::Branch(Branch::Bgez), w),
-        0b01000 => condition(Kind::Trap(Trap::Tgei), w),
-        0b01001 => condition(Kind::Trap(Trap::Tgeiu), w),
-        0b01010 => condition(Kind::Trap(Trap::Tlti), w),
-        0b01011 => condition(Kind::Trap(Trap::Tltiu), w),
-        0b01100 => condition(Kind::Trap(Trap::Teqi), w),
-        0b01110 => condition(Kind::Trap(Trap::Tnei), w),
-        0b10000 => condition(Kind::Branch(Branch::Bltzal), w),
-        0b10001 => condition(Kind::Branch(Branch::Bgezal), w),
-        _ => Reading::NoInstruction,
-    }
-}
-
-// Opcode COP0: told by the field rs.
-fn cop0(w: u32) -> Reading
-    requires { ⌜ cutOf w .op ≡ 16 ⌝ }
-    ensures { λ r. ⌜ r ≡ readFields (cutOf w) ⌝ }
-{
-    let code = word::field::rs(w);
-    match code {
-        0b00000 => control_move(Kind::System(System::Mfc0), w),
-        0b00100 => control_move(Kind::System(System::Mtc0), w),
-        0b10000 => exception_return(Kind::System(System::Rfe), w),
+    match e {
+        name::NOR => three_registers(Kind::Alu(Alu::Nor), w),
+        name::OR => three_registers(Kind::Alu(Alu::Or), w),
+        name::ORI => constant(Kind::Immediate(Immediate::Ori), w),
+        name::RFE => exception_return(Kind::System(System::Rfe), w),
+        name::SB => constant(Kind::Access(Access::Sb), w),
+        name::SC => constant(Kind::Access(Access::Sc), w),
+        name::SH => constant(Kind::Access(Access::Sh), w),
+        name::SLL => shift_amount(Kind::Shift(Shift::Sll), w),
+        name::SLLV => three_registers(Kind::Shift(Shift::Sllv), w),
+        name::SLT => three_registers(Kind::Alu(Alu::Slt), w),
+        name::SLTI => constant(Kind::Immediate(Immediate::Slti), w),
+        name::SLTIU => constant(Kind::Immediate(Immediate::Sltiu), w),
+        name::SLTU => three_registers(Kind::Alu(Alu::Sltu), w),
+        name::SRA => shift_amount(Kind::Shift(Shift::Sra), w),
+        name::SRAV => three_registers(Kind::Shift(Shift::Srav), w),
+        name::SRL => shift_amount(Kind::Shift(Shift::Srl), w),
+        name::SRLV => three_registers(Kind::Shift(Shift::Srlv), w),
+        name::SUB => three_registers(Kind::Alu(Alu::Sub), w),
+        name::SUBU => three_registers(Kind::Alu(Alu::Subu), w),
+        name::SW => constant(Kind::Access(Access::Sw), w),
+        name::SYNC => barrier(Kind::System(System::Sync), w),
+        name::SYSCALL => system_code(Kind::System(System::Syscall), w),
+        name::TEQ => trap_code(Kind::Trap(Trap::Teq), w),
+        name::TEQI => condition(Kind::Trap(Trap::Teqi), w),
+        name::TGE => trap_code(Kind::Trap(Trap::Tge), w),
+        name::TGEI => condition(Kind::Trap(Trap::Tgei), w),
+        name::TGEIU => condition(Kind::Trap(Trap::Tgeiu), w),
+        name::TGEU => trap_code(Kind::Trap(Trap::Tgeu), w),
+        name::TLT => trap_code(Kind::Trap(Trap::Tlt), w),
+        name::TLTI => condition(Kind::Trap(Trap::Tlti), w),
+        name::TLTIU => condition(Kind::Trap(Trap::Tltiu), w),
+        name::TLTU => trap_code(Kind::Trap(Trap::Tltu), w),
+        name::TNE => trap_code(Kind::Trap(Trap::Tne), w),
+        name::TNEI => condition(Kind::Trap(Trap::Tnei), w),
+        name::XOR => three_registers(Kind::Alu(Alu::Xor), w),
+        name::XORI => constant(Kind::Immediate(Immediate::Xori), w),
         _ => Reading::NoInstruction,
     }
 }
@@ -315,35 +328,10 @@ fn cop0(w: u32) -> Reading
 pub fn read(w: u32) -> Reading
     ensures { λ r. ⌜ r ≡ readOf w ⌝ }
 {
-    let code = word::field::opcode(w);
-    match code {
-        0b000000 => special(w),
-        0b000001 => regimm(w),
-        0b010000 => cop0(w),
-        0b000010 => jump_index(Kind::Branch(Branch::J), w),
-        0b000011 => jump_index(Kind::Branch(Branch::Jal), w),
-        0b000100 => constant(Kind::Branch(Branch::Beq), w),
-        0b000101 => constant(Kind::Branch(Branch::Bne), w),
-        0b000110 => branch_zero(Kind::Branch(Branch::Blez), w),
-        0b000111 => branch_zero(Kind::Branch(Branch::Bgtz), w),
-        0b001000 => constant(Kind::Immediate(Immediate::Addi), w),
-        0b001001 => constant(Kind::Immediate(Immediate::Addiu), w),
-        0b001010 => constant(Kind::Immediate(Immediate::Slti), w),
-        0b001011 => constant(Kind::Immediate(Immediate::Sltiu), w),
-        0b001100 => constant(Kind::Immediate(Immediate::Andi), w),
-        0b001101 => constant(Kind::Immediate(Immediate::Ori), w),
-        0b001110 => constant(Kind::Immediate(Immediate::Xori), w),
-        0b001111 => upper_constant(Kind::Immediate(Immediate::Lui), w),
-        0b100000 => constant(Kind::Access(Access::Lb), w),
-        0b100001 => constant(Kind::Access(Access::Lh), w),
-        0b100011 => constant(Kind::Access(Access::Lw), w),
-        0b100100 => constant(Kind::Access(Access::Lbu), w),
-        0b100101 => constant(Kind::Access(Access::Lhu), w),
-        0b101000 => constant(Kind::Access(Access::Sb), w),
-        0b101001 => constant(Kind::Access(Access::Sh), w),
-        0b101011 => constant(Kind::Access(Access::Sw), w),
-        0b110000 => constant(Kind::Access(Access::Ll), w),
-        0b111000 => constant(Kind::Access(Access::Sc), w),
-        _ => Reading::NoInstruction,
+    let e = table::entry(w);
+    if e <= 36 {
+        first_half(e, w)
+    } else {
+        second_half(e, w)
     }
 }
