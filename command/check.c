@@ -49,5 +49,5 @@ const struct subcommand check_command = {
     "Prints 'accept' and the number of words, or 'refuse', the number of the rule that\n"
     "is broken, and the index of the word that breaks it or -. Where there are several\n"
     "files, each line begins with the file's name. 'cc100 explain' says why.\n",
-    1, 0, check,
+    1, ANY_NUMBER, check,
 };

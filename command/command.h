@@ -3,6 +3,7 @@
 #ifndef COMMAND_H
 #define COMMAND_H
 
+#include <limits.h>
 #include <stdbool.h>
 #include <stddef.h>
 #include <stdint.h>
@@ -40,14 +41,15 @@ struct options {
 };
 
 /* The subcommands. Each has a bit, by which an option names those that take it. */
-enum { CHECK = 1, EXPLAIN = 2, LIST = 4, RUN = 8 };
+enum { CHECK = 1, EXPLAIN = 2, LIST = 4, RUN = 8, TABLES = 16 };
 struct subcommand {
     unsigned bit;
     const char *name, *arguments, *summary, *description;
-    int fewest_files, most_files; /* most_files is 0 for any number */
+    int fewest_files, most_files;
     enum status (*work)(const struct options *);
 };
-extern const struct subcommand check_command, explain_command, list_command, run_command;
+#define ANY_NUMBER INT_MAX /* of files */
+extern const struct subcommand check_command, explain_command, list_command, run_command, tables_command;
 
 /* options.c: reads the options and files of a subcommand. Gives whether there is work to do; else *status is what the command ends with. */
 bool read_options(const struct subcommand *s, int count, char **arguments, struct options *o, enum status *status);
@@ -105,6 +107,7 @@ struct text {
     uint32_t target;
 };
 struct text text_of(uint32_t word, uint32_t address);
+const char *mnemonic_of(uint32_t kind); /* NULL for no instruction, 0 */
 
 /* What an instruction writes, to be shown beside what a step changed. */
 #define WRITES_HI 32u

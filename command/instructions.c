@@ -73,6 +73,8 @@ static void write_operand(char *to, size_t size, const cc100_instruction *i, cha
     }
 }
 
+const char *mnemonic_of(uint32_t kind) { return kind ? rows[kind - 1].name : NULL; }
+
 struct text text_of(uint32_t word, uint32_t address)
 {
     cc100_instruction i = cc100_read(word);
@@ -83,7 +85,7 @@ struct text text_of(uint32_t word, uint32_t address)
         snprintf(t.operands, sizeof t.operands, "0x%" PRIx32, word);
         return t;
     }
-    t.name = rows[i.kind - 1].name;
+    t.name = mnemonic_of(i.kind);
     for (const char *c = rows[i.kind - 1].operands; *c; c++) {
         size_t used = strlen(t.operands);
         write_operand(t.operands + used, sizeof t.operands - used, &i, *c, address);

@@ -1,14 +1,14 @@
-/* cc100: checks, explains, lists and runs report modules. */
+/* cc100: checks, explains, lists and runs report modules, and prints the tables of the instructions. */
 #include <string.h>
 
 #include "command.h"
 
-static const struct subcommand *const subcommands[] = {&check_command, &explain_command, &list_command, &run_command};
+static const struct subcommand *const subcommands[] = {&check_command, &explain_command, &list_command, &run_command, &tables_command};
 #define SUBCOMMANDS (sizeof subcommands / sizeof subcommands[0])
 
 static void print_help(void)
 {
-    printf("usage: cc100 COMMAND [OPTION]... FILE...\n\n"
+    printf("usage: cc100 COMMAND [OPTION]... [FILE]...\n\n"
            "Report modules in CC100-C machine code: checked, explained, listed and run.\n\n"
            "commands:\n");
     for (size_t i = 0; i < SUBCOMMANDS; i++)

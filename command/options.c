@@ -11,8 +11,9 @@
 #define DATA_SIZE 64u
 #define BUDGET 1000000u
 
-/* Every subcommand that takes a module. */
+/* Every subcommand that takes a module, and every one. */
 #define MODULE (CHECK | EXPLAIN | LIST | RUN)
+#define EVERY (MODULE | TABLES)
 
 enum value { FLAG, WORD, LONG, FILE_NAME };
 
@@ -27,8 +28,8 @@ struct row {
 enum { HELP, JSON, STRAIGHT, NUMBER, ROWS, FIGURES, BUDGETED, STEPS, LENGTH, CODE_AT, CODE_LENGTH, DATA_AT, DATA_LENGTH, OPTIONS };
 
 static const struct row rows[OPTIONS] = {
-    [HELP] = {"help", FLAG, MODULE, "", "says this"},
-    [JSON] = {"json", FLAG, CHECK | EXPLAIN | RUN, "", "prints one JSON object a line"},
+    [HELP] = {"help", FLAG, EVERY, "", "says this"},
+    [JSON] = {"json", FLAG, CHECK | EXPLAIN | RUN | TABLES, "", "prints one JSON object a line"},
     [STRAIGHT] = {"straight", FLAG, CHECK | EXPLAIN | RUN, "", "takes only straight-through modules, known to finish"},
     [NUMBER] = {"number", WORD, EXPLAIN, "N", "explains a number alone, of a refusal or an exit"},
     [ROWS] = {"rows", FILE_NAME, RUN, "FILE", "a line of quantity, cost and price for each row"},
@@ -44,17 +45,32 @@ static const struct row rows[OPTIONS] = {
 
 static bool takes(const struct subcommand *s, int row) { return (rows[row].taken_by & s->bit) != 0; }
 
+/* Two texts with a blank between them, where the second is not empty. */
+static void write_joined(char *to, size_t size, const char *first, const char *second)
+{
+    snprintf(to, size, "%s%s%s", first, *second ? " " : "", second);
+}
+
+static void print_usage(FILE *to, const char *name, const char *arguments)
+{
+    char taken[64];
+    write_joined(taken, sizeof taken, "[OPTION]...", arguments);
+    fprintf(to, "usage: cc100 %s %s\n", name, taken);
+}
+
 static void print_help(const struct subcommand *s)
 {
     char named[64];
-    printf("usage: cc100 %s [OPTION]... %s\n\n%s\noptions:\n", s->name, s->arguments, s->description);
+    print_usage(stdout, s->name, s->arguments);
+    printf("\n%s\noptions:\n", s->description);
     for (int i = 0; i < OPTIONS; i++)
         if (takes(s, i)) {
-            snprintf(named, sizeof named, "--%s%s%s", rows[i].name, *rows[i].placeholder ? " " : "", rows[i].placeholder);
-            printf("  %-20s  %s\n", named, rows[i].help);
+            write_joined(named, sizeof named, rows[i].name, rows[i].placeholder);
+            printf("  --%-18s  %s\n", named, rows[i].help);
         }
-    printf("\nNumbers are decimal or hexadecimal (4096 or 0x1000). - stands for standard input.\n\n"
-           "Exit status: 0 done or accepted, 1 refused or not complete, 2 not to be done\n"
+    if (s->most_files)
+        printf("\nNumbers are decimal or hexadecimal (4096 or 0x1000). - stands for standard input.\n");
+    printf("\nExit status: 0 done or accepted, 1 refused or not complete, 2 not to be done\n"
            "(wrong usage, a file that cannot be read or written).\n");
 }
 
@@ -65,7 +81,8 @@ enum status wrong_usage(const struct subcommand *s, const char *format, ...)
     va_start(values, format);
     fprintf(stderr, "cc100%s%s: ", space, name);
     vfprintf(stderr, format, values);
-    fprintf(stderr, "\nusage: cc100 %s [OPTION]... %s\n", s ? name : "COMMAND", s ? s->arguments : "FILE...");
+    fprintf(stderr, "\n");
+    print_usage(stderr, s ? name : "COMMAND", s ? s->arguments : "[FILE]...");
     fprintf(stderr, "'cc100%s%s --help' says more\n", space, name);
     va_end(values);
     return STATUS_NOT_DONE;
@@ -133,7 +150,7 @@ static bool right_files(const struct subcommand *s, const struct options *o)
     int fewest = o->number_given ? 0 : s->fewest_files, most = o->number_given ? 0 : s->most_files;
     if (o->file_count < fewest)
         wrong_usage(s, "no file is named");
-    else if (o->file_count > most && (most || o->number_given))
+    else if (o->file_count > most)
         wrong_usage(s, "'%s' is one file too many", o->files[most]);
     else
         return true;

@@ -8,7 +8,7 @@ from program import DONE, NOT_DONE, equal, expect, run
 
 ROOT = os.path.join(os.path.dirname(os.path.abspath(__file__)), "..", "..")
 REFUSALS, EXITS = range(1, 22), range(40, 53)
-COMMANDS = ["check", "explain", "list", "run"]
+COMMANDS = ["check", "explain", "list", "run", "tables"]
 USAGE = "usage: cc100 explain [OPTION]... FILE | --number N\n'cc100 explain --help' says more\n"
 
 
@@ -195,7 +195,8 @@ def test_commands():
     equal(["--help"], "commands with a part of their own", COMMANDS, re.findall(r"^\.SS cc100 (\w+)$", text_of("man/cc100.1"), re.M))
     for command in COMMANDS:
         usages = help_of(command).split("\n")[0]
-        equal([command, "--help"], "its first line", True, usages.startswith("usage: cc100 %s [OPTION]... FILE" % command))
+        pattern = r"usage: cc100 %s \[OPTION\]\.\.\.%s" % (command, "" if command == "tables" else " FILE.*")
+        equal([command, "--help"], "its first line", True, re.fullmatch(pattern, usages) is not None)
 
 
 # The statuses, in the words of the help, and how the manual page begins to tell them.

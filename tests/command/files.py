@@ -240,7 +240,7 @@ WRITERS = [
     "run --json samples/margin.module --rows samples/margin.rows", "check --straight samples/m.module",
     "run --straight samples/totals.module --rows samples/margin.rows", "explain --straight samples/m.module",
     "run --steps samples/m.module", "run --steps --json samples/margin.module", "run samples/m.module --budget 1",
-    "--help", "--version", "check --help", "run -h",
+    "tables", "tables --json", "--help", "--version", "check --help", "run -h",
 ]
 
 

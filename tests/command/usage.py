@@ -11,7 +11,7 @@ Exit status: 0 done or accepted, 1 refused or not complete, 2 not to be done
 """
 
 HELP = """\
-usage: cc100 COMMAND [OPTION]... FILE...
+usage: cc100 COMMAND [OPTION]... [FILE]...
 
 Report modules in CC100-C machine code: checked, explained, listed and run.
 
@@ -20,6 +20,7 @@ commands:
   explain               says why a module is refused, and what to do about it
   list                  prints a module's instructions
   run                   checks a module and runs it to the end of its report
+  tables                prints the 72 instructions by the fields of a word
 
 options:
   --help                says this; 'cc100 COMMAND --help' says more of a command
@@ -31,7 +32,7 @@ standard input.
 """ + EXIT_STATUS
 
 # What follows the name of a subcommand in its usage.
-ARGUMENTS = {"check": "FILE...", "explain": "FILE | --number N", "list": "FILE", "run": "FILE"}
+ARGUMENTS = {"check": " FILE...", "explain": " FILE | --number N", "list": " FILE", "run": " FILE", "tables": ""}
 
 # What the help of a subcommand says before its options.
 DESCRIPTIONS = {
@@ -64,24 +65,31 @@ the SYSCALL 0 of the last bundle says so too, with the total in register 8 and n
 rate. Anything else ends the run, and the report is not complete; the last access
 to the data area is then printed.
 """,
+    "tables": """\
+Prints the four tables that say which instruction a word is: by its opcode and,
+where that says SPECIAL, REGIMM or COP0, by another field in the table of that
+name. A place's number is the bits of its row and then those of its column; a -
+is a place that no instruction has.
+""",
 }
 
 # The options in the order of the help: the line of each, and the subcommands that take it.
-ALL = ("check", "explain", "list", "run")
+ALL = ("check", "explain", "list", "run", "tables")
+MODULE = ALL[:-1]  # those that take a module
 OPTIONS = [
     ("help", "  --help                says this\n", ALL),
-    ("json", "  --json                prints one JSON object a line\n", ("check", "explain", "run")),
+    ("json", "  --json                prints one JSON object a line\n", ("check", "explain", "run", "tables")),
     ("straight", "  --straight            takes only straight-through modules, known to finish\n", ("check", "explain", "run")),
     ("number", "  --number N            explains a number alone, of a refusal or an exit\n", ("explain",)),
     ("rows", "  --rows FILE           a line of quantity, cost and price for each row\n", ("run",)),
     ("figures", "  --figures FILE        whole numbers that the module can ask for\n", ("run",)),
     ("budget", "  --budget N            steps of the whole run (1000000)\n", ("run",)),
     ("steps", "  --steps               prints a line for each step\n", ("run",)),
-    ("memory-length", "  --memory-length N     bytes of memory (196608)\n", ALL),
-    ("code-base", "  --code-base N         address of the code area (0x10000)\n", ALL),
-    ("code-size", "  --code-size N         bytes of the code area (the module's length)\n", ALL),
-    ("data-base", "  --data-base N         address of the data area (0x20000)\n", ALL),
-    ("data-size", "  --data-size N         bytes of the data area (64)\n", ALL),
+    ("memory-length", "  --memory-length N     bytes of memory (196608)\n", MODULE),
+    ("code-base", "  --code-base N         address of the code area (0x10000)\n", MODULE),
+    ("code-size", "  --code-size N         bytes of the code area (the module's length)\n", MODULE),
+    ("data-base", "  --data-base N         address of the data area (0x20000)\n", MODULE),
+    ("data-size", "  --data-size N         bytes of the data area (64)\n", MODULE),
 ]
 FLAGS = ("help", "json", "straight", "steps")
 FILE_NAMES = ("rows", "figures")
@@ -102,16 +110,16 @@ def largest(option):
 
 def help_of(command):
     lines = "".join(line for _, line, commands in OPTIONS if command in commands)
-    return "usage: cc100 %s [OPTION]... %s\n\n%s\noptions:\n%s\n%s\n%s" % (
-        command, ARGUMENTS[command], DESCRIPTIONS[command], lines,
-        "Numbers are decimal or hexadecimal (4096 or 0x1000). - stands for standard input.\n", EXIT_STATUS)
+    numbers = "Numbers are decimal or hexadecimal (4096 or 0x1000). - stands for standard input.\n\n" if command in MODULE else ""
+    return "usage: cc100 %s [OPTION]...%s\n\n%s\noptions:\n%s\n%s%s" % (
+        command, ARGUMENTS[command], DESCRIPTIONS[command], lines, numbers, EXIT_STATUS)
 
 
 def wrong(command, message):
     """What standard error has where the usage of a subcommand is wrong, or of cc100 itself where there is none."""
     if not command:
-        return "cc100: %s\nusage: cc100 COMMAND [OPTION]... FILE...\n'cc100 --help' says more\n" % message
-    return "cc100 %s: %s\nusage: cc100 %s [OPTION]... %s\n'cc100 %s --help' says more\n" % (
+        return "cc100: %s\nusage: cc100 COMMAND [OPTION]... [FILE]...\n'cc100 --help' says more\n" % message
+    return "cc100 %s: %s\nusage: cc100 %s [OPTION]...%s\n'cc100 %s --help' says more\n" % (
         command, message, command, ARGUMENTS[command], command)
 
 
@@ -132,8 +140,10 @@ def test_help():
     for arguments in (["--help"], ["-h"], ["--help", "check"], ["-h", "no such thing"]):
         expect(arguments, DONE, HELP)
     for command in ALL:
-        for more in ("--help", "-h", "--hel", "--h", "-hx", M + " --help", "missing.module -h", "--data-size 2 --help", "--help --nothing"):
+        for more in ("--help", "-h", "--hel", "--h", "-hx", M + " --help", "missing.module -h", "--help --nothing"):
             expect([command] + more.split(), DONE, help_of(command))
+    for command in MODULE:
+        expect([command, "--data-size", "2", "--help"], DONE, help_of(command))
 
 
 def test_version():
@@ -285,7 +295,7 @@ def test_last_of_an_option():
 
 
 def test_missing_files():
-    for command in ALL:
+    for command in MODULE:
         for more in ([], ["--"], ["--data-size", "64"], ["--data-size", "64", "--"]):
             expect_wrong([command] + more, "no file is named")
 
@@ -297,6 +307,15 @@ def test_too_many_files():
             second = [word for word in more if word not in ("--data-size", "64", "--")] or ["--data-size"]
             expect_wrong([command, M] + more, "'%s' is one file too many" % second[0])
     expect_wrong(["list", "missing.module", ""], "'' is one file too many")
+
+
+def test_no_files():
+    """The tables are of no file."""
+    for more in ([M], ["--json", M], [M, "--json"], ["--", M], [M, "second"]):
+        expect_wrong(["tables"] + more, "'%s' is one file too many" % M)
+    for name in ("-", "", "missing.module"):
+        expect_wrong(["tables", name], "'%s' is one file too many" % name)
+    expect_wrong(["tables", "--", "--json"], "'--json' is one file too many")
 
 
 def test_number_with_a_file():
