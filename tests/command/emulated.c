@@ -2,6 +2,7 @@
 
        emulated run FILE STEPS [FIGURE]...
        emulated check|straight FILE MEMORY_LENGTH CODE_BASE CODE_SIZE DATA_BASE DATA_SIZE
+       emulated words
 
    The first places a module at 0x10000 in 196,608 bytes of memory, with its data area at 0x20000, and starts it as demand 3 says: in user
    mode at its first word, register 26 the data base, register 27 the code base; all else is 0. It takes up to so many steps and prints a line
@@ -10,7 +11,8 @@
    While figures are left, SYSCALL 0 does not end it: register 8 gets the figure's place, 0, 4, 8 and so on, and register 9 the figure, and the
    module is resumed. At the end it prints `data` and the first 16 words of the data area. It does not look whether the module is accepted.
 
-   The second prints the checker's verdict in the verdict program's words, `straight` that on a straight-through module. */
+   The second prints the checker's verdict in the verdict program's words, `straight` that on a straight-through module. The third prints a
+   line for each of the 72 instructions: its name, and the word that it is written as with every field 0 but a control register, which is 8. */
 #include <inttypes.h>
 #include <stdio.h>
 #include <stdlib.h>
@@ -133,14 +135,28 @@ static int check(em_checker *checker, char **arguments)
     return 0;
 }
 
+/* Only a control register may not be 0. */
+static int words(void)
+{
+    for (uint32_t kind = 1; kind <= EM_KINDS; kind++) {
+        uint32_t word;
+        if (em_write((struct em_instruction){.kind = kind}, &word) != 0 && em_write((struct em_instruction){.kind = kind, .rd = 8}, &word) != 0)
+            return 2;
+        printf("%s %" PRIx32 "\n", em_name(kind), word);
+    }
+    return 0;
+}
+
 int main(int count, char **arguments)
 {
+    if (count == 2 && strcmp(arguments[1], "words") == 0)
+        return words();
     if (count >= 4 && strcmp(arguments[1], "run") == 0)
         return run(count - 2, arguments + 2);
     if (count == 8 && strcmp(arguments[1], "check") == 0)
         return check(em_check, arguments + 2);
     if (count == 8 && strcmp(arguments[1], "straight") == 0)
         return check(em_check_straight, arguments + 2);
-    fprintf(stderr, "usage: emulated run FILE STEPS [FIGURE]... | check|straight FILE MEMORY_LENGTH CODE_BASE CODE_SIZE DATA_BASE DATA_SIZE\n");
+    fprintf(stderr, "usage: emulated run FILE STEPS [FIGURE]... | check|straight FILE MEMORY_LENGTH CODE_BASE CODE_SIZE DATA_BASE DATA_SIZE | words\n");
     return 2;
 }

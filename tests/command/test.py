@@ -17,7 +17,8 @@ sys.path.insert(0, os.path.dirname(os.path.abspath(__file__)))
 
 import program
 
-SUBJECTS = ["usage", "check", "explaining", "listing", "running", "rows", "steps", "straight", "files", "terminal", "documents"]
+SUBJECTS = ["usage", "check", "explaining", "listing", "running", "rows", "steps", "straight", "tables", "files", "terminal",
+            "documents"]
 
 
 def run_test(function):
