@@ -70,14 +70,24 @@ static void drawn_words(void)
     }
 }
 
-/* Every opcode with every function and every rt, and edges in the fields between them. */
-static void table_words(uint32_t opcode)
+/* An opcode, rs and rt with every function, and edges in the fields between. */
+static void table_words(uint32_t opcode, uint32_t rs, uint32_t rt)
 {
-    static const uint32_t rs[] = {0, 4, 16, 31}, rd[] = {0, 8, 12, 15, 31}, shift[] = {0, 31};
-    for (uint32_t i = 0; i < 64 * 32 * 40; i++) {
-        uint32_t function = i % 64, rt = i / 64 % 32, edges = i / 2048;
-        compare_read(opcode << 26 | rs[edges % 4] << 21 | rt << 16 | rd[edges / 4 % 5] << 11 | shift[edges / 20] << 6 | function);
+    static const uint32_t rd[] = {0, 8, 12, 15, 31}, shift[] = {0, 31};
+    for (uint32_t i = 0; i < 64 * 10; i++) {
+        uint32_t function = i % 64, edges = i / 64;
+        compare_read(opcode << 26 | rs << 21 | rt << 16 | rd[edges % 5] << 11 | shift[edges / 5] << 6 | function);
     }
+}
+
+/* Every place of a table by opcode, function, rt or rs: an opcode with every rt and edges of rs, and with every rs. */
+static void places(uint32_t opcode)
+{
+    static const uint32_t rs[] = {0, 4, 16, 31};
+    for (uint32_t i = 0; i < 32 * 4; i++)
+        table_words(opcode, rs[i / 32], i % 32);
+    for (uint32_t i = 0; i < 32; i++)
+        table_words(opcode, i, 0);
 }
 
 static void random_words(void)
@@ -143,7 +153,7 @@ void test_words(void)
     begin_part("words");
     drawn_words();
     for (uint32_t opcode = 0; opcode < 64; opcode++)
-        table_words(opcode);
+        places(opcode);
     random_words();
     writer();
     for (uint32_t kind = 1; kind <= KINDS; kind++) {
