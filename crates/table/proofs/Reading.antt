@@ -1,25 +1,25 @@
 -- A word is read by the entry that it leads to.
-use Prim.Native.Nat.{ℕ, _+_, _*_, _^_, _<_}
+use Prim.Native.Nat.{ℕ, zero, suc, _+_, _^_, _<_}
 use mathlib.Core.Path.{_≡_, refl, ap, sym, subst, _∙_}
 use mathlib.Core.Bool.{Bool, true, false, cond, _&&_, _||_}
 use mathlib.Core.List.{List, [], _∷_}
 use native.Mathlib.Omega.{arith}
 use lib.Dec.{T, eqb, ltb, eqb→eq, ltb→lt}
 use borrow.Author.Tests.{ne-eqb, eqb-true, eqb-false}
-use lib.ListN.{length, getD}
+use lib.ListN.{getD}
 use Rattle.word.specs.declared.field.Fields.{Fields}
 use Rattle.word.specs.Field.{cutOf, Fit}
 use Rattle.word.proofs.Fields.{cut-fit}
 use Rattle.isa.specs.declared.kind.Kind.{Kind}
 use Rattle.isa.specs.declared.reading.Reading.the-variants.{NoInstruction}
 use Rattle.isa.specs.Table.{rowOf, instructions}
-use Rattle.isa.specs.Reading.{readAs, readFields, readOf}
-use Rattle.isa.proofs.Codes.{tableOf, keyOf, keyIn, Found, found, nothing, lookup, every-kind, numbers}
+use Rattle.isa.specs.Reading.{readAs, readOf}
+use Rattle.isa.proofs.Codes.{tableOf, keyOf, keyIn, Found, found, nothing, lookup, every-kind, both, numbers}
 use Rattle.isa.proofs.Same.{same-kind}
 use Rattle.isa.proofs.ByKey.{in-special, in-regimm, in-cop0, in-opcode, read-found, read-nothing}
 use Rattle.isa.proofs.Members.{member, below}
-use Rattle.table.specs.Tables.{Table, opcode, function, condition, control, Entry, none, special, regimm, cop0, kind, opcodes, functions, conditions, controls, entries, Place, entryAt, placeIn, followed, placeOf, numberIn, entryOf}
-use Rattle.table.proofs.Places.{numberOf, keyAt, Inside, stands, key-at}
+use Rattle.table.specs.Tables.{Table, opcode, function, condition, control, Entry, none, special, regimm, cop0, kind, opcodes, functions, conditions, controls, Place, entryAt, placeIn, followed, placeOf, numberIn, entryOf, Ends, at-none, at-kind}
+use Rattle.table.proofs.Places.{keyAt, Inside, stands, key-at}
 
 -- ---- an entry's number tells the entry
 
@@ -177,6 +177,48 @@ module _ (f : Fields) where
         go regimm h = absurd (y h)
         go cop0 h = absurd (z h)
         go (kind k) h = tt
+
+-- ---- what a look-up ends at
+
+-- an entry whose number is neither 0 nor a marker's is one of the 72
+pub entry-kind : (p : Place) → 0 < numberIn (entryAt p) → numberIn (entryAt p) < 100 → (k : Kind) × (entryAt p ≡ kind k)
+entry-kind p = go (entryAt p)
+  where
+    go : (o : Entry) → 0 < numberIn o → numberIn o < 100 → (k : Kind) × (o ≡ kind k)
+    go none a b = absurd (omega arith)
+    go special a b = absurd (omega arith)
+    go regimm a b = absurd (omega arith)
+    go cop0 a b = absurd (omega arith)
+    go (kind k) a b = (k, refl)
+
+abbrev everyPlain : List Entry → Bool
+everyPlain [] = true
+everyPlain (e ∷ es) = plain e && everyPlain es
+
+all-plain : (es : List Entry) → T (everyPlain es) → (i : ℕ) → T (plain (getD es i none))
+all-plain [] t i = tt
+all-plain (e ∷ es) t zero = both (plain e) (everyPlain es) t .0
+all-plain (e ∷ es) t (suc i) = all-plain es (both (plain e) (everyPlain es) t .1) i
+
+-- no table but that by the opcode names another
+followed-ends : (o : Entry) (f : Fields) → entryAt (placeIn opcode f) ≡ o → T (plain (entryAt (followed o f)))
+unfolding functions conditions controls
+followed-ends none f e = subst (λ (x : Entry). T (plain x)) (sym e) tt
+followed-ends special f e = all-plain functions tt (f .funct)
+followed-ends regimm f e = all-plain conditions tt (f .rt)
+followed-ends cop0 f e = all-plain controls tt (f .rs)
+followed-ends (kind k) f e = subst (λ (x : Entry). T (plain x)) (sym e) tt
+
+pub entry-ends : (f : Fields) → Ends (entryOf f)
+unfolding entryOf placeOf
+entry-ends f = go (entryAt (placeOf f)) (followed-ends (entryAt (placeIn opcode f)) f refl)
+  where
+    go : (o : Entry) → T (plain o) → Ends (numberIn o)
+    go none t = at-none refl
+    go special t = absurd t
+    go regimm t = absurd t
+    go cop0 t = absurd t
+    go (kind k) t = at-kind k refl
 
 -- ---- what a reader of words needs
 

@@ -158,3 +158,9 @@ pub record OneEntry (k : Kind) : Type 0 where
   pub place : Place
   pub there : entryAt place ≡ kind k
   pub alone : (p q : Place) → entryAt p ≡ kind k → entryAt q ≡ kind k → p ≡ q
+
+-- ---- what a look-up ends at: no instruction, or one of the 72; never a name of another table
+
+pub data Ends (n : ℕ) : Type 0 where
+  at-none : n ≡ 0 → Ends n
+  at-kind : (k : Kind) → n ≡ rowOf k .number → Ends n

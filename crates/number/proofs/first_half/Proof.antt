@@ -1,4 +1,3 @@
-use mathlib.Core.Path.{sym}
 use native.Mathlib.Omega.{arith}
 use Rattle.isa.proofs.Codes.{numbers}
 use Rattle.isa.proofs.Members.{apart}
