@@ -7,7 +7,6 @@ use native.Mathlib.Omega.{arith}
 use lib.Dec.{T, eqb, eqb→eq, T-not}
 use borrow.Author.Tests.{eq-eqb, ne-eqb, eqb-true, eqb-false}
 use Rattle.word.specs.declared.field.Fields.{Fields}
-use Rattle.word.specs.Field.{cutOf}
 use Rattle.isa.specs.declared.kind.Kind.{Kind}
 use Rattle.isa.specs.declared.kind.Instruction.{Instruction}
 use Rattle.isa.specs.declared.format.Format.{Format}
@@ -16,7 +15,7 @@ use Rattle.isa.specs.declared.reading.Reading.{Reading}
 use Rattle.isa.specs.declared.reading.Reading.the-variants.{Legal, NoInstruction}
 use Rattle.isa.specs.Table.{rowOf, instructions}
 use Rattle.isa.specs.Drawing.{drawingOf}
-use Rattle.isa.specs.Reading.{decodeOf, drawingFor, fitsKind, readAs, readFrom, readFields, readOf}
+use Rattle.isa.specs.Reading.{decodeOf, drawingFor, fitsKind, readAs, readFrom, readFields}
 use Rattle.isa.proofs.Codes.{tableOf, keyOf, keyIn, Found, found, nothing, lookup, found-self, every-kind, both, fresh, distinct, distinct-keys}
 use Rattle.isa.proofs.Roles.{is-true}
 use Rattle.isa.proofs.Drawings.{Matched, matched}
@@ -43,10 +42,10 @@ module _ (f : Fields) where
 -- ---- fields that fit a kind lead to it
 
 -- an opcode that leads to no other table
-abbrev pub direct : ℕ → Bool
+abbrev direct : ℕ → Bool
 direct n = not (eqb n 0) && (not (eqb n 1) && not (eqb n 16))
 
-pub at-opcode : (f : Fields) (n : ℕ) → T (direct n) → f .op ≡ n → keyIn f ≡ n
+at-opcode : (f : Fields) (n : ℕ) → T (direct n) → f .op ≡ n → keyIn f ≡ n
 at-opcode f n t e = in-opcode f (away 0 (a .0)) (away 1 (b .0)) (away 16 (b .1)) ∙ e
   where
     a : T (not (eqb n 0)) × T (not (eqb n 1) && not (eqb n 16))
@@ -146,10 +145,6 @@ module _ (f : Fields) where
   pub read-fits : (k : Kind) → T (fitsKind k f) → readFields f ≡ Legal (decodeOf k (drawingFor k) f)
   unfolding readAs
   read-fits k t = read-found k (fits-key k f t) ∙ rw (is-true (fitsKind k f) t)
-
-pub read-word : (w : ℕ) {f : Fields} {r : Reading} → f ≡ cutOf w → r ≡ readFields f → r ≡ readOf w
-unfolding readOf
-read-word w p q = q ∙ ap readFields p
 
 -- ---- what is read comes from a kind that fits
 

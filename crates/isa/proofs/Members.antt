@@ -1,14 +1,14 @@
--- Numbers tried along a list, and up to a bound.
-use mathlib.Core.Path.{_≡_, _∙_, subst}
+-- Numbers told apart along a list, and tested up to a bound.
+use mathlib.Core.Path.{_≡_, subst}
 use mathlib.Core.Bool.{Bool, true, false, not, _&&_, _||_}
 use mathlib.Core.List.{List, [], _∷_}
 use Prim.Native.Nat.{ℕ, zero, suc, _+_, _<_, _≤_}
 use native.Mathlib.Omega.{arith}
 use native.Mathlib.Decide.{decLt}
-use lib.Dec.{T, eqb, eqb→eq}
+use lib.Dec.{T, eqb}
 use Rattle.isa.proofs.Codes.{both}
 
--- what a match knows in its last arm: the codes from the last to the first
+-- what a match knows in its last arm: the numbers of the others, from the last to the first
 abbrev pub Avoids : ℕ → List ℕ → Type 0
 Avoids x [] = Unit
 Avoids x (n ∷ l) = Avoids x l × (x ≡ n → ⊥)
@@ -16,14 +16,6 @@ Avoids x (n ∷ l) = Avoids x l × (x ≡ n → ⊥)
 abbrev pub member : ℕ → List ℕ → Bool
 member x [] = false
 member x (n ∷ l) = eqb x n || member x l
-
-pub not-member : (x : ℕ) (l : List ℕ) → Avoids x l → (y : ℕ) → T (member y l) → x ≡ y → ⊥
-not-member x [] a y t e = absurd t
-not-member x (n ∷ l) a y t e = at-head (eqb y n) (eqb→eq y n) t (λ s. not-member x l (a .0) y s e)
-  where
-    at-head : (b : Bool) → (T b → y ≡ n) → T (b || member y l) → (T (member y l) → ⊥) → ⊥
-    at-head true p s later = a .1 (e ∙ p tt)
-    at-head false p s later = later s
 
 -- what the first of two implies
 pub split-or : (a b : Bool) → T (not a || b) → T a → T b
