@@ -11,12 +11,13 @@ use Rattle.word.specs.declared.field.Fields.{Fields}
 use Rattle.word.specs.Field.{cutOf, Fit}
 use Rattle.word.proofs.Fields.{cut-fit}
 use Rattle.isa.specs.declared.kind.Kind.{Kind}
-use Rattle.isa.specs.declared.reading.Reading.the-variants.{NoInstruction}
+use Rattle.isa.specs.declared.kind.Instruction.{Instruction}
+use Rattle.isa.specs.declared.reading.Reading.the-variants.{Legal, NoInstruction}
 use Rattle.isa.specs.Table.{rowOf, instructions}
-use Rattle.isa.specs.Reading.{readAs, readOf}
-use Rattle.isa.proofs.Codes.{tableOf, keyOf, keyIn, Found, found, nothing, lookup, every-kind, both, numbers}
+use Rattle.isa.specs.Reading.{decodeOf, readAs, readOf}
+use Rattle.isa.proofs.Codes.{tableOf, keyOf, keyIn, Found, found, nothing, lookup, found-self, every-kind, both, numbers}
 use Rattle.isa.proofs.Same.{same-kind}
-use Rattle.isa.proofs.ByKey.{in-special, in-regimm, in-cop0, in-opcode, read-found, read-nothing}
+use Rattle.isa.proofs.ByKey.{in-special, in-regimm, in-cop0, in-opcode, fits-key, read-found, read-nothing, came}
 use Rattle.isa.proofs.Members.{member, below}
 use Rattle.table.specs.Tables.{Table, opcode, function, condition, control, Entry, none, special, regimm, cop0, kind, opcodes, functions, conditions, controls, Place, entryAt, placeIn, followed, placeOf, numberIn, entryOf, Ends, at-none, at-kind}
 use Rattle.table.proofs.Places.{keyAt, Inside, stands, key-at}
@@ -273,6 +274,14 @@ module _ (w : ℕ) (small : w < 2 ^ 32) where
         go (of-regimm p q) = absurd (omega (arith, entry-key fields fit k e, coded, fit .funct, fit .rt, fit .rs))
         go (of-cop0 p q) = (p, omega (arith, entry-key fields fit k e, coded))
         go (of-opcode x y z q) = absurd (omega (arith, entry-key fields fit k e, coded, fit .op))
+
+  -- the kind of an instruction that is read is the one looked up
+  pub kind-looked-up : (i : Instruction) → readOf w ≡ Legal i → entryOf fields ≡ rowOf (i .kind) .number
+  unfolding readOf decodeOf
+  kind-looked-up i e =
+      let c = came fields i e in
+      let k : c .kind ≡ i .kind = ap (λ (j : Instruction). j .kind) (c .same) in
+      rw (← k) (key-entry fields fit (c .kind) (ap (lookup instructions) (fits-key (c .kind) fields (c .fit)) ∙ found-self (c .kind)))
 
   -- a number that no instruction has
   pub read-none : ((k : Kind) → entryOf fields ≡ rowOf k .number → ⊥) → NoInstruction ≡ readOf w
