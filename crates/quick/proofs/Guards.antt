@@ -29,6 +29,7 @@ use Rattle.isa.proofs.ByKey.{not-so, came, read-fits}
 use Rattle.isa.proofs.Members.{split-or}
 use Rattle.view.specs.View.{isRegion, isRegister, seen, viewOf, wordView, isJump, needsGuard}
 use Rattle.view.specs.Guard.{isMask, isMerge, masks, merges, isMaskOf, maskIn, isMergeOf}
+use Rattle.table.specs.Tables as Tables
 use Rattle.quick.specs.Set.{isIn}
 use Rattle.quick.proofs.Patterns.{any, settlesAll, pattern-fits, opcode}
 use Rattle.quick.proofs.Sets.{leads, led}
@@ -100,13 +101,13 @@ holdsAccess set k = not (accesses k) || (isCode (drawingFor k .op) && isIn set (
 
 module _ (f : Fields) (fit : Fit f) where
   -- a set of opcodes: each leads to an access, and that of each access is in it
-  told-access : (set : ℕ) → T (leads set 0 (λ k. accesses k && settlesAll (opcode any) (drawingFor k))) → T (every (holdsAccess set) instructions)
+  told-access : (set : ℕ) → T (leads set Tables.opcode (λ k. accesses k && settlesAll (opcode any) (drawingFor k))) → T (every (holdsAccess set) instructions)
       → kindIs accesses (readFields f) ≡ isIn set (f .op)
   told-access set h inside = go (isIn set (f .op)) refl
     where
       go : (b : Bool) → isIn set (f .op) ≡ b → kindIs accesses (readFields f) ≡ b
       go true e =
-          let k = led set 0 (λ k. accesses k && settlesAll (opcode any) (drawingFor k)) h (f .op) (fit .op) e in
+          let k = led set Tables.opcode (λ k. accesses k && settlesAll (opcode any) (drawingFor k)) h (f .op) (fit .op) e in
           let t = both (accesses (k .kind)) _ (k .passed) in
           told-true f accesses (k .kind)
           (pattern-fits (opcode any) (drawingFor (k .kind)) (rowOf (k .kind) .code) f (t .1)
@@ -176,7 +177,7 @@ module _ (w : ℕ) {f : Fields} (e : f ≡ cutOf w) (fit : Fit f) where
   register-jump = rw (← e, register-view (readFields f), told-register f fit)
 
   pub needs-guard : (set : ℕ) {a b : Bool} → a ≡ isIn set (f .op) → b ≡ wordView w .register
-      → T (leads set 0 (λ k. accesses k && settlesAll (opcode any) (drawingFor k))) → T (every (holdsAccess set) instructions)
+      → T (leads set Tables.opcode (λ k. accesses k && settlesAll (opcode any) (drawingFor k))) → T (every (holdsAccess set) instructions)
       → a || b ≡ needsGuard (wordView w)
   unfolding wordView readOf
   needs-guard set p q h inside = rw (p, q, ← e, access-view (readFields f), told-access f fit set h inside)

@@ -25,6 +25,8 @@ use Rattle.isa.proofs.Roles.{is-true}
 use Rattle.isa.proofs.Drawings.{and-true}
 use Rattle.isa.proofs.ByKey.{read-fits}
 use Rattle.view.specs.View.{isBarred, isRelative, isRegion, isRegister, seen, wordView, isBase, isPlain}
+use Rattle.table.specs.Tables as Tables
+use Rattle.table.specs.Tables.{Table, function}
 use Rattle.quick.specs.Set.{isIn}
 use Rattle.quick.specs.Plain.{Plain, PlainWord}
 use Rattle.quick.proofs.Patterns.{any, blank, Pattern, Holds, settlesAll, pattern-fits, special, opcode}
@@ -121,7 +123,7 @@ module _ (b : Bool) (k : Kind) (f : Fields) where
 abbrev pub plainBy : Bool → Pattern → Kind → Bool
 plainBy b p k = plainKind b k && settlesAll p (drawingFor k)
 
-module _ (b : Bool) (p : Pattern) (m set : ℕ) (h : T (leads set m (plainBy b p))) where
+module _ (b : Bool) (p : Pattern) (m : Table) (set : ℕ) (h : T (leads set m (plainBy b p))) where
   pub plain-in : (f : Fields) (n : ℕ) → n < 64 → isIn set n ≡ true → Holds p n f → isBase (fieldOf b f) ≡ false → Plain f
   plain-in f n l e g z =
       let k = led set m (plainBy b p) h n l e in
@@ -137,25 +139,25 @@ either false b h = inr h
 module _ (f : Fields) (fit : Fit f) where
   -- a set's codes are tried along the whole set: h
   module _ {a b g : Bool} (z : f .op ≡ 0) (pg : g ≡ isBase (f .rd)) (sa sb : ℕ) (pa : a ≡ isIn sa (f .funct)) (pb : b ≡ isIn sb (f .funct))
-      (ha : T (leads sa 1 (plainBy true (special any any any blank)))) (hb : T (leads sb 1 (plainBy true (special blank any any any)))) where
+      (ha : T (leads sa function (plainBy true (special any any any blank)))) (hb : T (leads sb function (plainBy true (special blank any any any)))) where
     pub frequent-plain : (a && eqb (f .shift) 0) || (b && eqb (f .rs) 0) ≡ true → not g ≡ true → Plain f
     frequent-plain h k = ⊎-elim three shifts (either _ _ h) (sym pg ∙ not-true g k)
       where
         three : a && eqb (f .shift) 0 ≡ true → isBase (f .rd) ≡ false → Plain f
         three y s =
             let q = Choice.both a _ y in
-            plain-in true (special any any any blank) 1 sa ha f (f .funct) (fit .funct) (sym pa ∙ q .0)
+            plain-in true (special any any any blank) function sa ha f (f .funct) (fit .funct) (sym pa ∙ q .0)
             (record { op = z; rs = tt; rt = tt; rd = tt; shift = eqb-true _ _ (q .1); funct = refl }) s
 
         shifts : b && eqb (f .rs) 0 ≡ true → isBase (f .rd) ≡ false → Plain f
         shifts y s =
             let q = Choice.both b _ y in
-            plain-in true (special blank any any any) 1 sb hb f (f .funct) (fit .funct) (sym pb ∙ q .0)
+            plain-in true (special blank any any any) function sb hb f (f .funct) (fit .funct) (sym pb ∙ q .0)
             (record { op = z; rs = eqb-true _ _ (q .1); rt = tt; rd = tt; shift = tt; funct = refl }) s
 
   module _ {a b c g : Bool} (z : f .op ≡ 0) (pg : g ≡ isBase (f .rd)) (sa sb sc : ℕ) (pa : a ≡ isIn sa (f .funct)) (pb : b ≡ isIn sb (f .funct))
-      (pc : c ≡ isIn sc (f .funct)) (ha : T (leads sa 1 (plainBy true (special blank blank any blank))))
-      (hb : T (leads sb 1 (plainBy true (special any any blank blank)))) (hc : T (leads sc 1 (plainBy true (special any any any any)))) where
+      (pc : c ≡ isIn sc (f .funct)) (ha : T (leads sa function (plainBy true (special blank blank any blank))))
+      (hb : T (leads sb function (plainBy true (special any any blank blank)))) (hc : T (leads sc function (plainBy true (special any any any any)))) where
     pub other-plain : ((a && (eqb (f .rs) 0 && (eqb (f .rt) 0 && eqb (f .shift) 0))) || ((b && (eqb (f .rd) 0 && eqb (f .shift) 0)) || c)) && not g ≡ true
         → Plain f
     other-plain h =
@@ -167,22 +169,22 @@ module _ (f : Fields) (fit : Fit f) where
             let q = Choice.both a _ y in
             let r = Choice.both (eqb (f .rs) 0) _ (q .1) in
             let t = Choice.both (eqb (f .rt) 0) _ (r .1) in
-            plain-in true (special blank blank any blank) 1 sa ha f (f .funct) (fit .funct) (sym pa ∙ q .0)
+            plain-in true (special blank blank any blank) function sa ha f (f .funct) (fit .funct) (sym pa ∙ q .0)
             (record { op = z; rs = eqb-true _ _ (r .0); rt = eqb-true _ _ (t .0); rd = tt; shift = eqb-true _ _ (t .1); funct = refl }) s
 
         multiply : b && (eqb (f .rd) 0 && eqb (f .shift) 0) ≡ true → isBase (f .rd) ≡ false → Plain f
         multiply y s =
             let q = Choice.both b _ y in
             let r = Choice.both (eqb (f .rd) 0) _ (q .1) in
-            plain-in true (special any any blank blank) 1 sb hb f (f .funct) (fit .funct) (sym pb ∙ q .0)
+            plain-in true (special any any blank blank) function sb hb f (f .funct) (fit .funct) (sym pb ∙ q .0)
             (record { op = z; rs = tt; rt = tt; rd = eqb-true _ _ (r .0); shift = eqb-true _ _ (r .1); funct = refl }) s
 
         full : c ≡ true → isBase (f .rd) ≡ false → Plain f
         full y s =
-            plain-in true (special any any any any) 1 sc hc f (f .funct) (fit .funct) (sym pc ∙ y)
+            plain-in true (special any any any any) function sc hc f (f .funct) (fit .funct) (sym pc ∙ y)
             (record { op = z; rs = tt; rt = tt; rd = tt; shift = tt; funct = refl }) s
 
-  module _ {a g : Bool} (pg : g ≡ isBase (f .rt)) (sa : ℕ) (pa : a ≡ isIn sa (f .op)) (ha : T (leads sa 0 (plainBy false (opcode any)))) where
+  module _ {a g : Bool} (pg : g ≡ isBase (f .rt)) (sa : ℕ) (pa : a ≡ isIn sa (f .op)) (ha : T (leads sa Tables.opcode (plainBy false (opcode any)))) where
     pub opcode-plain : (a || eqb (f .op) 15 && eqb (f .rs) 0) && not g ≡ true → Plain f
     opcode-plain h =
         let x = Choice.both _ (not g) h in
@@ -190,7 +192,7 @@ module _ (f : Fields) (fit : Fit f) where
       where
         constant : a ≡ true → isBase (f .rt) ≡ false → Plain f
         constant y s =
-            plain-in false (opcode any) 0 sa ha f (f .op) (fit .op) (sym pa ∙ y)
+            plain-in false (opcode any) Tables.opcode sa ha f (f .op) (fit .op) (sym pa ∙ y)
             (record { op = refl; rs = tt; rt = tt; rd = tt; shift = tt; funct = tt }) s
 
         upper : eqb (f .op) 15 && eqb (f .rs) 0 ≡ true → isBase (f .rt) ≡ false → Plain f
