@@ -1,21 +1,17 @@
--- Numbers told apart along a list, and tested up to a bound.
+-- Numbers told apart from those of a match, and tested up to a bound.
 use mathlib.Core.Path.{_≡_, subst}
 use mathlib.Core.Bool.{Bool, true, false, not, _&&_, _||_}
 use mathlib.Core.List.{List, [], _∷_}
 use Prim.Native.Nat.{ℕ, zero, suc, _+_, _<_, _≤_}
 use native.Mathlib.Omega.{arith}
 use native.Mathlib.Decide.{decLt}
-use lib.Dec.{T, eqb}
+use lib.Dec.{T}
 use Rattle.isa.proofs.Codes.{both}
 
 -- what a match knows in its last arm: the numbers of the others, from the last to the first
 abbrev pub Avoids : ℕ → List ℕ → Type 0
 Avoids x [] = Unit
 Avoids x (n ∷ l) = Avoids x l × (x ≡ n → ⊥)
-
-abbrev pub member : ℕ → List ℕ → Bool
-member x [] = false
-member x (n ∷ l) = eqb x n || member x l
 
 -- what the first of two implies
 pub split-or : (a b : Bool) → T (not a || b) → T a → T b

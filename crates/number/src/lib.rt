@@ -163,7 +163,7 @@ pub fn number_of(k: Kind) -> u32
     }
 }
 
-// ADD to MULTU.
+// ADD to MULTU, or none.
 fn first_half(n: u32) -> Numbered
     requires { ⌜ n ≤ 36 ⌝ }
     ensures { λ r. ⌜ r ≡ kindOf n ⌝ }
@@ -209,7 +209,7 @@ fn first_half(n: u32) -> Numbered
     }
 }
 
-// NOR to XORI.
+// NOR to XORI, or none.
 fn second_half(n: u32) -> Numbered
     requires { ⌜ 36 < n ⌝ }
     ensures { λ r. ⌜ r ≡ kindOf n ⌝ }

@@ -1,4 +1,4 @@
-// A word read: its entry in the tables, and for each format the test of the bits that must be zero and the operands.
+// A word read: its entry in the tables, and for each format the test of the bits that are fixed and the operands.
 ghost use mathlib.Core.Path.{_≡_};
 ghost use Prim.Native.Nat.{_+_, _*_, _^_, _<_, _≤_};
 ghost use Rattle.word.specs.Field.{cutOf, Fit};
@@ -80,7 +80,7 @@ fn legal_if(test: bool, i: Instruction) -> Reading
     }
 }
 
-// ---- one function for each format: the bits that must be zero, and the operands
+// ---- one function for each format: the bits that are fixed, and the operands
 
 fn three_registers(k: Kind, w: u32) -> Reading
     requires { ⌜ (rowOf k .format ≡ F.ThreeRegisters) × (entryOf (cutOf w) ≡ rowOf k .number) ⌝ }
@@ -233,7 +233,7 @@ fn exception_return(k: Kind, w: u32) -> Reading
 
 // ---- one line for each instruction: what its entry leads to
 
-// ADD to MULTU.
+// ADD to MULTU, or none.
 fn first_half(e: u32, w: u32) -> Reading
     requires { ⌜ (e ≡ entryOf (cutOf w)) × (e ≤ 36) ⌝ }
     ensures { λ r. ⌜ r ≡ readOf w ⌝ }
@@ -279,7 +279,7 @@ fn first_half(e: u32, w: u32) -> Reading
     }
 }
 
-// NOR to XORI.
+// NOR to XORI, or none.
 fn second_half(e: u32, w: u32) -> Reading
     requires { ⌜ (e ≡ entryOf (cutOf w)) × (36 < e) ⌝ }
     ensures { λ r. ⌜ r ≡ readOf w ⌝ }

@@ -1,5 +1,5 @@
 -- The tables beside the instruction set: one computed test of all places, and what it says at each.
-use Prim.Native.Nat.{ℕ, zero, suc, _+_, _*_, _<_}
+use Prim.Native.Nat.{ℕ, zero, suc, _+_, _*_, _^_, _<_}
 use mathlib.Core.Path.{_≡_, refl, ap, sym, subst, _∙_}
 use mathlib.Core.Bool.{Bool, true, false, cond, _&&_}
 use mathlib.Core.List.{List, [], _∷_}
@@ -12,7 +12,7 @@ use Rattle.isa.specs.declared.kind.Kind.{Kind}
 use Rattle.isa.specs.Table.{rowOf, instructions}
 use Rattle.isa.proofs.Codes.{tableOf, keyOf, Found, found, nothing, lookup, lookup-key, found-self, every-kind, both}
 use Rattle.isa.proofs.Same.{same-kind}
-use Rattle.table.specs.Tables.{Table, opcode, function, condition, control, Entry, none, special, regimm, cop0, kind, opcodes, functions, conditions, controls, entries, Place, entryAt, OneEntry}
+use Rattle.table.specs.Tables.{Table, opcode, function, condition, control, Entry, none, special, regimm, cop0, kind, opcodes, functions, conditions, controls, entries, Place, entryAt, bitsOf, OneEntry}
 
 -- the tables by number, as in a kind's key
 abbrev pub numberOf : Table → ℕ
@@ -64,7 +64,15 @@ Inside p = p .index < length (entries (p .table))
 at-place : (p : Place) → Inside p → T (agrees (lookup instructions (keyAt p)) (entryAt p))
 at-place p h = agreed-at (entries (p .table)) (numberOf (p .table) * 64) (p .index) (tested (p .table)) h
 
-pub short : (p : Place) → Inside p → p .index < 64
+-- a place for each number of the field
+pub table-size : (t : Table) → length (entries t) ≡ 2 ^ bitsOf t
+unfolding opcodes functions conditions controls
+table-size opcode = refl
+table-size function = refl
+table-size condition = refl
+table-size control = refl
+
+short : (p : Place) → Inside p → p .index < 64
 unfolding opcodes functions conditions controls
 short p h = go (p .table) h
   where

@@ -1,11 +1,11 @@
 -- A word is read by the entry that it leads to.
 use Prim.Native.Nat.{ℕ, zero, suc, _+_, _^_, _<_}
 use mathlib.Core.Path.{_≡_, refl, ap, sym, subst, _∙_}
-use mathlib.Core.Bool.{Bool, true, false, cond, _&&_, _||_}
+use mathlib.Core.Bool.{Bool, true, false, cond, _&&_}
 use mathlib.Core.List.{List, [], _∷_}
 use native.Mathlib.Omega.{arith}
 use lib.Dec.{T, eqb, ltb, eqb→eq, ltb→lt}
-use borrow.Author.Tests.{ne-eqb, eqb-true, eqb-false}
+use borrow.Author.Tests.{eqb-true, eqb-false}
 use lib.ListN.{getD}
 use Rattle.word.specs.declared.field.Fields.{Fields}
 use Rattle.word.specs.Field.{cutOf, Fit}
@@ -18,8 +18,8 @@ use Rattle.isa.specs.Reading.{decodeOf, readAs, readOf}
 use Rattle.isa.proofs.Codes.{tableOf, keyOf, keyIn, Found, found, nothing, lookup, found-self, every-kind, both, numbers}
 use Rattle.isa.proofs.Same.{same-kind}
 use Rattle.isa.proofs.ByKey.{in-special, in-regimm, in-cop0, in-opcode, fits-key, read-found, read-nothing, came}
-use Rattle.isa.proofs.Members.{member, below}
-use Rattle.table.specs.Tables.{Table, opcode, function, condition, control, Entry, none, special, regimm, cop0, kind, opcodes, functions, conditions, controls, Place, entryAt, placeIn, followed, placeOf, numberIn, entryOf, Ends, at-none, at-kind}
+use Rattle.isa.proofs.Members.{below}
+use Rattle.table.specs.Tables.{Table, opcode, function, condition, control, Entry, none, special, regimm, cop0, kind, opcodes, functions, conditions, controls, Place, entryAt, placeIn, followed, placeOf, numberIn, entryOf, Marks, Ends, at-none, at-kind}
 use Rattle.table.proofs.Places.{keyAt, Inside, stands, key-at}
 
 -- ---- an entry's number tells the entry
@@ -49,7 +49,7 @@ named (kind j) k q = let z : found j ≡ found k = sym (numbered-self j) ∙ ap 
 
 -- ---- the place that fields lead to has their key
 
--- the markers stand at 0, 1 and 16, and nowhere else
+-- no marker
 abbrev plain : Entry → Bool
 plain none = true
 plain special = false
@@ -63,6 +63,25 @@ followed-plain special f t = absurd t
 followed-plain regimm f t = absurd t
 followed-plain cop0 f t = absurd t
 followed-plain (kind k) f t = refl
+
+abbrev marked : Entry → ℕ → Bool
+marked none n = true
+marked special n = eqb n 0
+marked regimm n = eqb n 1
+marked cop0 n = eqb n 16
+marked (kind k) n = true
+
+-- each marker stands at its opcode alone
+pub marks : (f : Fields) → Fit f → Marks (entryAt (placeIn opcode f)) (f .op)
+unfolding opcodes
+marks f h = says (getD opcodes (f .op) none) (below 64 (λ i. marked (getD opcodes i none) i) tt (f .op) (h .op))
+  where
+    says : (o : Entry) → T (marked o (f .op)) → Marks o (f .op)
+    says none t = tt
+    says special t = eqb→eq (f .op) 0 t
+    says regimm t = eqb→eq (f .op) 1 t
+    says cop0 t = eqb→eq (f .op) 16 t
+    says (kind k) t = tt
 
 -- which table the opcode leads to
 data Origin (f : Fields) : Type 0 where
@@ -100,12 +119,15 @@ module _ (f : Fields) (h : Fit f) where
   unfolding placeOf
   at-code n p q = ap (λ (x : Entry). followed x f) (ap (λ (i : ℕ). getD opcodes i none) p ∙ q)
 
-  -- the markers stand at 0, 1 and 16 alone
   unmarked : (f .op ≡ 0 → ⊥) → (f .op ≡ 1 → ⊥) → (f .op ≡ 16 → ⊥) → T (plain (getD opcodes (f .op) none))
-  unfolding opcodes
-  unmarked p q r =
-      let t = below 64 (λ i. member i (0 ∷ 1 ∷ 16 ∷ []) || plain (getD opcodes i none)) tt (f .op) (h .op) in
-      rw (ne-eqb (f .op) 0 p, ne-eqb (f .op) 1 q, ne-eqb (f .op) 16 r) at t
+  unmarked p q r = go (getD opcodes (f .op) none) (marks f h)
+    where
+      go : (o : Entry) → Marks o (f .op) → T (plain o)
+      go none m = tt
+      go special m = absurd (p m)
+      go regimm m = absurd (q m)
+      go cop0 m = absurd (r m)
+      go (kind k) m = tt
 
   leads : Leads f
   unfolding opcodes functions conditions controls

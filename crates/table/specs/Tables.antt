@@ -1,4 +1,5 @@
--- The kind looked up (document 02, Ticket 3): four tables over the six-bit and five-bit fields, eight places to a row, as the public manuals print them.
+-- The kind looked up (document 02, Ticket 3): four tables over the six-bit and five-bit fields, eight places to a row, as the public manuals print
+-- them, with the 72 alone entered. RFE, which these print under function 16 of COP0, stands at rs 16: no other word with that rs is an instruction.
 use Prim.Native.Nat.{ℕ}
 use mathlib.Core.Path.{_≡_}
 use mathlib.Core.List.{List, [], _∷_}
@@ -118,17 +119,23 @@ pub record Place : Type 0 where
 abbrev pub entryAt : Place → Entry
 entryAt p = getD (entries (p .table)) (p .index) none
 
--- the field by which a table goes
+-- the field that is a place in a table, and how many bits it has
 abbrev pub fieldFor : Table → Fields → ℕ
 fieldFor opcode f = f .op
 fieldFor function f = f .funct
 fieldFor condition f = f .rt
 fieldFor control f = f .rs
 
+abbrev pub bitsOf : Table → ℕ
+bitsOf opcode = 6
+bitsOf function = 6
+bitsOf condition = 5
+bitsOf control = 5
+
 abbrev pub placeIn : Table → Fields → Place
 placeIn t f = record { table = t; index = fieldFor t f }
 
--- from the table by the opcode to the one that its entry names
+-- from the table by the opcode to the one that its entry names; where it names none, the place stays
 abbrev pub followed : Entry → Fields → Place
 followed none f = placeIn opcode f
 followed special f = placeIn function f
@@ -148,18 +155,27 @@ numberIn regimm = 101
 numberIn cop0 = 102
 numberIn (kind k) = rowOf k .number
 
--- what stands where the fields lead
+-- the number of what stands where the fields lead: what the word is, if an instruction at all, since the other fields are not looked at
 unfoldable pub entryOf : Fields → ℕ
 entryOf f = numberIn (entryAt (placeOf f))
 
--- ---- "each of the 72 instructions has exactly one entry": there is one, and any two places that hold it are the same place
+-- ---- "each of the 72 instructions has exactly one entry": there is one, and any two places that hold it, of all four tables, are the same place
 
 pub record OneEntry (k : Kind) : Type 0 where
   pub place : Place
   pub there : entryAt place ≡ kind k
   pub alone : (p q : Place) → entryAt p ≡ kind k → entryAt q ≡ kind k → p ≡ q
 
--- ---- what a look-up ends at: no instruction, or one of the 72; never a name of another table
+-- ---- a marker stands at the opcode that has its name: SPECIAL 000000, REGIMM 000001, COP0 010000
+
+abbrev pub Marks : Entry → ℕ → Type 0
+Marks none n = Unit
+Marks special n = n ≡ 0b000000
+Marks regimm n = n ≡ 0b000001
+Marks cop0 n = n ≡ 0b010000
+Marks (kind k) n = Unit
+
+-- ---- n is the number of none or of one of the 72, and not that of a marker
 
 pub data Ends (n : ℕ) : Type 0 where
   at-none : n ≡ 0 → Ends n

@@ -1,4 +1,4 @@
-// The kind of a word, looked up in the four tables.
+// The kind that a word can be, looked up in the four tables.
 ghost use mathlib.Core.Path.{_≡_};
 ghost use lib.ListN.{getD};
 ghost use Rattle.word.specs.Field.{cutOf};
@@ -8,8 +8,8 @@ use crate::tables::*;
 
 pub mod tables;
 
-// The entry at place n of a table whose places begin at `from`, or `other` where it has no such place. Each place has a line of its own: from a
-// table that is known when compiling and such a match the compiler makes a jump; a table that is indexed is built anew at each look-up.
+// The entry at place n of a table whose places begin at `from`, or `other` where it has no such place. A line for each place and no index: the
+// compiler knows the table and makes of both one jump, where it would build an array that is indexed anew at each look-up.
 fn entry_at(t: [u32; 32], from: u32, n: u32, other: u32) -> u32
     ensures { λ r. ⌜ r ≡ getD t (differenceOf n from) other ⌝ }
 {
@@ -77,7 +77,7 @@ fn by_control(n: u32) -> u32
     entry_at(CONTROLS, 0, n, NONE)
 }
 
-// The number of the instruction whose place a word leads to, or 0.
+// The number of the instruction whose place a word leads to, or 0. What its other fields must be is not looked at.
 pub fn entry(w: u32) -> u32
     ensures { λ r. ⌜ r ≡ Spec.entryOf (cutOf w) ⌝ }
 {

@@ -1,10 +1,10 @@
-// The four tables, eight places to a row, as the public manuals print them. A table of 64 places is two of 32.
+// The four tables, eight places to a row, as the public manuals print them. A table of 64 places is two of 32, so that one look-up serves all.
 // An entry is the number of an instruction, NONE, or SPECIAL, REGIMM or COP0: the table to look into next.
 use isa::name::*;
 
 pub const NONE: u32 = 0;
 
-// Markers: numbers that no instruction has.
+// Markers: opcodes that lead to another table, by numbers that no instruction has.
 pub const SPECIAL: u32 = 100;
 
 pub const REGIMM: u32 = 101;
