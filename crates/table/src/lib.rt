@@ -81,11 +81,12 @@ fn by_control(n: u32) -> u32
 pub fn entry(w: u32) -> u32
     ensures { λ r. ⌜ r ≡ Spec.entryOf (cutOf w) ⌝ }
 {
-    let e = by_opcode(word::field::opcode(w));
+    let f = word::field::cut(w);
+    let e = by_opcode(f.op);
     match e {
-        SPECIAL => by_function(word::field::funct(w)),
-        REGIMM => by_condition(word::field::rt(w)),
-        COP0 => by_control(word::field::rs(w)),
+        SPECIAL => by_function(f.funct),
+        REGIMM => by_condition(f.rt),
+        COP0 => by_control(f.rs),
         _ => e,
     }
 }
