@@ -1,6 +1,5 @@
 // Instructions by number: 1 to 72, in the order of document 004, section 1.2.
 ghost use mathlib.Core.Path.{_≡_};
-ghost use Prim.Native.Nat.{_<_, _≤_};
 ghost use Rattle.isa.specs.Table.{aluRow, immediateRow, shiftRow, multiplyRow, accessRow, branchRow, trapRow, systemRow};
 ghost use Rattle.number.specs.Number.{numberOf, kindOf};
 use isa::kind::Access;
@@ -163,9 +162,7 @@ pub fn number_of(k: Kind) -> u32
     }
 }
 
-// ADD to MULTU, or none.
-fn first_half(n: u32) -> Numbered
-    requires { ⌜ n ≤ 36 ⌝ }
+pub fn kind_of(n: u32) -> Numbered
     ensures { λ r. ⌜ r ≡ kindOf n ⌝ }
 {
     match n {
@@ -205,16 +202,6 @@ fn first_half(n: u32) -> Numbered
         name::MTLO => Numbered::Known(Kind::Multiply(Multiply::Mtlo)),
         name::MULT => Numbered::Known(Kind::Multiply(Multiply::Mult)),
         name::MULTU => Numbered::Known(Kind::Multiply(Multiply::Multu)),
-        _ => Numbered::Unknown,
-    }
-}
-
-// NOR to XORI, or none.
-fn second_half(n: u32) -> Numbered
-    requires { ⌜ 36 < n ⌝ }
-    ensures { λ r. ⌜ r ≡ kindOf n ⌝ }
-{
-    match n {
         name::NOR => Numbered::Known(Kind::Alu(Alu::Nor)),
         name::OR => Numbered::Known(Kind::Alu(Alu::Or)),
         name::ORI => Numbered::Known(Kind::Immediate(Immediate::Ori)),
@@ -252,15 +239,5 @@ fn second_half(n: u32) -> Numbered
         name::XOR => Numbered::Known(Kind::Alu(Alu::Xor)),
         name::XORI => Numbered::Known(Kind::Immediate(Immediate::Xori)),
         _ => Numbered::Unknown,
-    }
-}
-
-pub fn kind_of(n: u32) -> Numbered
-    ensures { λ r. ⌜ r ≡ kindOf n ⌝ }
-{
-    if n <= 36 {
-        first_half(n)
-    } else {
-        second_half(n)
     }
 }

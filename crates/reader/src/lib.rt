@@ -1,6 +1,6 @@
 // A word read: its entry in the tables, and for each format the test of the bits that are fixed and the operands.
 ghost use mathlib.Core.Path.{_≡_};
-ghost use Prim.Native.Nat.{_+_, _*_, _^_, _<_, _≤_};
+ghost use Prim.Native.Nat.{_+_, _*_, _^_};
 ghost use Rattle.word.specs.Field.{cutOf, Fit};
 ghost use Rattle.isa.specs.Table.{rowOf};
 ghost use Rattle.isa.specs.Reading.{made, legalIf, readOf};
@@ -233,11 +233,10 @@ fn exception_return(k: Kind, w: u32) -> Reading
 
 // ---- one line for each instruction: what its entry leads to
 
-// ADD to MULTU, or none.
-fn first_half(e: u32, w: u32) -> Reading
-    requires { ⌜ (e ≡ entryOf (cutOf w)) × (e ≤ 36) ⌝ }
+pub fn read(w: u32) -> Reading
     ensures { λ r. ⌜ r ≡ readOf w ⌝ }
 {
+    let e = table::entry(w);
     match e {
         name::ADD => three_registers(Kind::Alu(Alu::Add), w),
         name::ADDI => constant(Kind::Immediate(Immediate::Addi), w),
@@ -275,16 +274,6 @@ fn first_half(e: u32, w: u32) -> Reading
         name::MTLO => one_source(Kind::Multiply(Multiply::Mtlo), w),
         name::MULT => two_sources(Kind::Multiply(Multiply::Mult), w),
         name::MULTU => two_sources(Kind::Multiply(Multiply::Multu), w),
-        _ => Reading::NoInstruction,
-    }
-}
-
-// NOR to XORI, or none.
-fn second_half(e: u32, w: u32) -> Reading
-    requires { ⌜ (e ≡ entryOf (cutOf w)) × (36 < e) ⌝ }
-    ensures { λ r. ⌜ r ≡ readOf w ⌝ }
-{
-    match e {
         name::NOR => three_registers(Kind::Alu(Alu::Nor), w),
         name::OR => three_registers(Kind::Alu(Alu::Or), w),
         name::ORI => constant(Kind::Immediate(Immediate::Ori), w),
@@ -322,16 +311,5 @@ fn second_half(e: u32, w: u32) -> Reading
         name::XOR => three_registers(Kind::Alu(Alu::Xor), w),
         name::XORI => constant(Kind::Immediate(Immediate::Xori), w),
         _ => Reading::NoInstruction,
-    }
-}
-
-pub fn read(w: u32) -> Reading
-    ensures { λ r. ⌜ r ≡ readOf w ⌝ }
-{
-    let e = table::entry(w);
-    if e <= 36 {
-        first_half(e, w)
-    } else {
-        second_half(e, w)
     }
 }

@@ -1,0 +1,91 @@
+use native.Mathlib.Omega.{arith}
+use Rattle.isa.proofs.Codes.{numbers}
+use Rattle.isa.proofs.Members.{apart}
+use Rattle.number.specs.Number.{kindOf}
+use Rattle.number.proofs.Numbers.{unknown}
+use Rattle.number.proofs.kind_of.Statement.{statement}
+use Rattle.number.proofs.kind_of.Tie as tie
+
+returns-73 : tie.Need-returns-73
+returns-73 c =
+    let n = c .before .args .n in
+    unknown n (λ k e. let b = numbers k in apart 1 72 n (c .match .rest) (omega arith) (omega arith))
+
+pub kind-of-spec : {M : Type 1} → statement M
+unfolding kindOf
+kind-of-spec =
+    tie.close
+    (tie.spec
+    (λ c. rw (c .match .keys1))
+    (λ c. rw (c .match .keys2))
+    (λ c. rw (c .match .keys3))
+    (λ c. rw (c .match .keys4))
+    (λ c. rw (c .match .keys5))
+    (λ c. rw (c .match .keys6))
+    (λ c. rw (c .match .keys7))
+    (λ c. rw (c .match .keys8))
+    (λ c. rw (c .match .keys9))
+    (λ c. rw (c .match .keys10))
+    (λ c. rw (c .match .keys11))
+    (λ c. rw (c .match .keys12))
+    (λ c. rw (c .match .keys13))
+    (λ c. rw (c .match .keys14))
+    (λ c. rw (c .match .keys15))
+    (λ c. rw (c .match .keys16))
+    (λ c. rw (c .match .keys17))
+    (λ c. rw (c .match .keys18))
+    (λ c. rw (c .match .keys19))
+    (λ c. rw (c .match .keys20))
+    (λ c. rw (c .match .keys21))
+    (λ c. rw (c .match .keys22))
+    (λ c. rw (c .match .keys23))
+    (λ c. rw (c .match .keys24))
+    (λ c. rw (c .match .keys25))
+    (λ c. rw (c .match .keys26))
+    (λ c. rw (c .match .keys27))
+    (λ c. rw (c .match .keys28))
+    (λ c. rw (c .match .keys29))
+    (λ c. rw (c .match .keys30))
+    (λ c. rw (c .match .keys31))
+    (λ c. rw (c .match .keys32))
+    (λ c. rw (c .match .keys33))
+    (λ c. rw (c .match .keys34))
+    (λ c. rw (c .match .keys35))
+    (λ c. rw (c .match .keys36))
+    (λ c. rw (c .match .keys37))
+    (λ c. rw (c .match .keys38))
+    (λ c. rw (c .match .keys39))
+    (λ c. rw (c .match .keys40))
+    (λ c. rw (c .match .keys41))
+    (λ c. rw (c .match .keys42))
+    (λ c. rw (c .match .keys43))
+    (λ c. rw (c .match .keys44))
+    (λ c. rw (c .match .keys45))
+    (λ c. rw (c .match .keys46))
+    (λ c. rw (c .match .keys47))
+    (λ c. rw (c .match .keys48))
+    (λ c. rw (c .match .keys49))
+    (λ c. rw (c .match .keys50))
+    (λ c. rw (c .match .keys51))
+    (λ c. rw (c .match .keys52))
+    (λ c. rw (c .match .keys53))
+    (λ c. rw (c .match .keys54))
+    (λ c. rw (c .match .keys55))
+    (λ c. rw (c .match .keys56))
+    (λ c. rw (c .match .keys57))
+    (λ c. rw (c .match .keys58))
+    (λ c. rw (c .match .keys59))
+    (λ c. rw (c .match .keys60))
+    (λ c. rw (c .match .keys61))
+    (λ c. rw (c .match .keys62))
+    (λ c. rw (c .match .keys63))
+    (λ c. rw (c .match .keys64))
+    (λ c. rw (c .match .keys65))
+    (λ c. rw (c .match .keys66))
+    (λ c. rw (c .match .keys67))
+    (λ c. rw (c .match .keys68))
+    (λ c. rw (c .match .keys69))
+    (λ c. rw (c .match .keys70))
+    (λ c. rw (c .match .keys71))
+    (λ c. rw (c .match .keys72))
+    returns-73)
