@@ -1,4 +1,6 @@
 // Loads and stores. a is GPR[base], b is GPR[rt], n the memory's length.
+#![tactic(auto)]
+
 ghost use Rattle.std.specs.Prelude.{◌≡◌};
 ghost use Rattle.access.specs.Access as Spec;
 

@@ -1,4 +1,6 @@
 // An effect carried out on lent registers and memory; the other registers go by value. The last access is kept in two words.
+#![tactic(auto)]
+
 ghost use Rattle.std.specs.Prelude.{◌≡◌, length};
 ghost use Rattle.effect.specs.Sound.{Performable};
 ghost use Rattle.effect.specs.Touched.{touched_of, last_of, Keeps};

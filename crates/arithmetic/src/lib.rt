@@ -1,4 +1,6 @@
 // Arithmetic, constants, shifts, multiplication and division. a is GPR[rs], b is GPR[rt].
+#![tactic(auto)]
+
 ghost use Rattle.std.specs.Prelude.{◌≡◌, ◌*◌, ◌/◌, ◌%◌, ◌^◌, ◌+ℤ◌, ◌-ℤ◌};
 ghost use Rattle.std.specs.Int.Signed.{quot_z, rem_z};
 ghost use Rattle.word.specs.Number.{signed_of, wrap_of};

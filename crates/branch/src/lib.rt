@@ -1,4 +1,6 @@
 // Jumps and branches. a is GPR[rs], b is GPR[rt].
+#![tactic(auto)]
+
 ghost use Rattle.std.specs.Prelude.{◌≡◌, pos};
 ghost use Rattle.std.specs.Int.Signed.{lt_z, le_z};
 ghost use Rattle.word.specs.Number.{signed_of};

@@ -1,4 +1,6 @@
 // What step, run and resume on a state as bytes share: the refusals that they try first.
+#![tactic(auto)]
+
 ghost use Rattle.std.specs.Prelude.{◌≡◌};
 ghost use Rattle.cc100.specs.Calls.{read_state_of};
 

@@ -1,4 +1,6 @@
 // cc100_check: the module checker's call for C on a module that is not placed yet.
+#![tactic(auto)]
+
 ghost use Rattle.std.specs.Prelude.{◌≡◌};
 ghost use Rattle.cc100_check.specs.Call.{check_call};
 

@@ -1,4 +1,6 @@
 // cc100_check_placed: the module checker's call for C on a module that is placed in memory.
+#![tactic(auto)]
+
 ghost use Rattle.std.specs.Prelude.{◌≡◌};
 ghost use Rattle.cc100_check_placed.specs.Call.{placed_call};
 

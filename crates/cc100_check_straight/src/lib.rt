@@ -1,4 +1,6 @@
 // cc100_check_straight: the straight-through profile of the module checker, for C.
+#![tactic(auto)]
+
 ghost use Rattle.std.specs.Prelude.{◌≡◌};
 ghost use Rattle.cc100_check_straight.specs.Call.{straight_call};
 

@@ -1,4 +1,6 @@
 // Words read and written by number.
+#![tactic(auto)]
+
 ghost use Rattle.std.specs.Prelude.{◌≡◌};
 ghost use Rattle.isa.specs.Reading.{read_of};
 ghost use Rattle.number.specs.Number.{kind_of};
@@ -11,7 +13,7 @@ use number::Numbered;
 
 // struct cc100_instruction; kind 0: no instruction.
 #[repr(C)]
-#[derive(Drop)]
+#[derive(Clone, Copy)]
 pub struct ReadAnswer {
     pub kind: u32,
     pub rs: u32,
@@ -23,7 +25,7 @@ pub struct ReadAnswer {
 
 // struct cc100_written; number 0 or 18.
 #[repr(C)]
-#[derive(Drop)]
+#[derive(Clone, Copy)]
 pub struct WriteAnswer {
     pub number: u32,
     pub word: u32,

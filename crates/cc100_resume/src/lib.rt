@@ -1,4 +1,6 @@
 // cc100_resume: a resume of a state as bytes.
+#![tactic(auto)]
+
 ghost use Rattle.std.specs.Prelude.{◌≡◌};
 ghost use Rattle.cc100.specs.Calls as Spec;
 

@@ -1,11 +1,13 @@
 // cc100_step: one step of a state as bytes.
+#![tactic(auto)]
+
 ghost use Rattle.std.specs.Prelude.{◌≡◌};
 ghost use Rattle.effect.specs.Touched.{cell};
 ghost use Rattle.cc100.specs.Calls as Spec;
 
 // struct cc100_stepped; width 0: no access.
 #[repr(C)]
-#[derive(Drop)]
+#[derive(Clone, Copy)]
 pub struct SteppedAnswer {
     pub number: u32,
     pub address: u32,

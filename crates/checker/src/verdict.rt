@@ -4,7 +4,7 @@ ghost use Rattle.checker.specs.Check as Spec;
 
 // struct cc100_verdict.
 #[repr(C)]
-#[derive(Drop)]
+#[derive(Clone, Copy)]
 pub struct Verdict {
     pub number: u32,
     pub place: u32,

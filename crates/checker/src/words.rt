@@ -10,7 +10,7 @@ use rules::{guard, image, landing, single};
 use view::View;
 
 // What a word gave: the first rule that it breaks or 0, and whether it is a branch or jump.
-#[derive(Drop)]
+#[derive(Clone, Copy)]
 pub struct Tried {
     pub number: u32,
     pub branch: bool,

@@ -1,11 +1,13 @@
 // What machine and checker ask of an instruction: is it an access or a branch, and which register does it write?
+#![tactic(auto)]
+
 ghost use Rattle.std.specs.Prelude.{◌≡◌};
 ghost use Rattle.class.specs.Class as C;
 
 use isa::kind::{Access, Branch, Instruction, Kind, Multiply, System};
 
 // Where control goes after the slot.
-#[derive(Drop)]
+#[derive(Clone, Copy)]
 pub enum Flow {
     // to the next word
     Onward,
@@ -18,7 +20,7 @@ pub enum Flow {
 }
 
 // What names the register that is written.
-#[derive(Drop)]
+#[derive(Clone, Copy)]
 pub enum Destination {
     Nowhere,
     FieldRt,
@@ -27,7 +29,7 @@ pub enum Destination {
     Return,
 }
 
-#[derive(Drop)]
+#[derive(Clone, Copy)]
 pub struct Class {
     // bytes loaded or stored; 0: not an access
     pub width: u32,

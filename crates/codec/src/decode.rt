@@ -6,7 +6,7 @@ use machine::state::State;
 use word::bytes::load32;
 
 // 0 and the state, or 17 and a state of zeros.
-#[derive(Drop)]
+#[derive(Clone, Copy)]
 pub struct Decoded {
     pub number: u32,
     pub state: State,

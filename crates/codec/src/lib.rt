@@ -1,4 +1,6 @@
 // The state as bytes, and back (document 01, Machine).
+#![tactic(auto)]
+
 pub mod decode;
 pub mod encode;
 

@@ -1,4 +1,6 @@
 // The effect of an instruction. a is GPR[rs], b is GPR[rt], n the memory's length.
+#![tactic(auto)]
+
 ghost use Rattle.std.specs.Prelude.{◌≡◌};
 ghost use Rattle.decision.specs.Decision.{decision_of};
 

@@ -1,4 +1,6 @@
 // The format and code of each instruction, and what each field of a format holds.
+#![tactic(auto)]
+
 ghost use Rattle.std.specs.Prelude.{◌≡◌};
 ghost use Rattle.isa.specs.Table as T;
 ghost use Rattle.isa.specs.Drawing as D;

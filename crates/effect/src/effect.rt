@@ -1,7 +1,7 @@
 // What a step does, and what it is decided from beside the instruction, its two source registers and the memory's length.
 
 // The registers of a state beside its 32 general ones: HI, LO, the program counters, the LL bit, control registers 8, 12, 13 and 14.
-#[derive(Drop)]
+#[derive(Clone, Copy)]
 pub struct Special {
     pub hi: u32,
     pub pc: u32,
@@ -16,7 +16,7 @@ pub struct Special {
 
 // Every effect but Exit, Jump and Link also moves the program counters on by one instruction. The order is one in which the compiler makes quick code of a
 // run's loop: it decides where the arms stand, and nothing else.
-#[derive(Drop)]
+#[derive(Clone, Copy)]
 pub enum Effect {
     // The exit's number.
     Exit(u32),
@@ -48,7 +48,7 @@ pub enum Effect {
 }
 
 // The memory access that a step completes, or a run completed last: what document 02 calls touched.
-#[derive(Drop)]
+#[derive(Clone, Copy)]
 pub enum Touched {
     Nothing,
     // Address, width.

@@ -1,4 +1,6 @@
 // The 16 formats: for each the test of the bits that are fixed, and the operands, of a word that leads to a kind of that format.
+#![tactic(auto)]
+
 ghost use Rattle.std.specs.Prelude.{◌≡◌, ◌+◌, ◌*◌, ◌^◌};
 ghost use Rattle.word.specs.Field.{cut_of, Fit};
 ghost use Rattle.isa.specs.Table.{row_of};

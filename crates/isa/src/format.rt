@@ -1,6 +1,6 @@
 // The formats of instruction words, and what each field of a format holds.
 
-#[derive(Drop)]
+#[derive(Clone, Copy)]
 pub enum Format {
     ThreeRegisters,
     ShiftAmount,
@@ -21,14 +21,14 @@ pub enum Format {
 }
 
 // An instruction's format, and the code that tells it from the others of the format.
-#[derive(Drop)]
+#[derive(Clone, Copy)]
 pub struct Shape {
     pub format: Format,
     pub code: u32,
 }
 
 // What a field of a format holds.
-#[derive(Drop)]
+#[derive(Clone, Copy)]
 pub enum Role {
     // an operand, kept under the field's name
     Operand,
@@ -43,7 +43,7 @@ pub enum Role {
 }
 
 // A format's six fields.
-#[derive(Drop)]
+#[derive(Clone, Copy)]
 pub struct Drawing {
     pub op: Role,
     pub rs: Role,

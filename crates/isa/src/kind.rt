@@ -1,7 +1,7 @@
 // The 72 instructions, nested after the groups of document 004, section 1.1.
 
 // 1.1.1 3-Operand ALU Instructions.
-#[derive(Drop)]
+#[derive(Clone, Copy)]
 pub enum Alu {
     Add,
     Addu,
@@ -16,7 +16,7 @@ pub enum Alu {
 }
 
 // 1.1.2 ALU Instructions With an Immediate Operand.
-#[derive(Drop)]
+#[derive(Clone, Copy)]
 pub enum Immediate {
     Addi,
     Addiu,
@@ -29,7 +29,7 @@ pub enum Immediate {
 }
 
 // 1.1.3 Shift Instructions.
-#[derive(Drop)]
+#[derive(Clone, Copy)]
 pub enum Shift {
     Sll,
     Srl,
@@ -40,7 +40,7 @@ pub enum Shift {
 }
 
 // 1.1.4 Multiply and Divide Instructions.
-#[derive(Drop)]
+#[derive(Clone, Copy)]
 pub enum Multiply {
     Mult,
     Multu,
@@ -53,7 +53,7 @@ pub enum Multiply {
 }
 
 // 1.1.5 Aligned CPU Load/Store Instructions, 1.1.7 Atomic Update CPU Load/Store Instructions.
-#[derive(Drop)]
+#[derive(Clone, Copy)]
 pub enum Access {
     Lb,
     Lbu,
@@ -68,7 +68,7 @@ pub enum Access {
 }
 
 // 1.1.6 Jump and Branch Instructions.
-#[derive(Drop)]
+#[derive(Clone, Copy)]
 pub enum Branch {
     J,
     Jal,
@@ -85,7 +85,7 @@ pub enum Branch {
 }
 
 // 1.1.9 Trap-on-Condition Instructions.
-#[derive(Drop)]
+#[derive(Clone, Copy)]
 pub enum Trap {
     Tge,
     Tgeu,
@@ -102,7 +102,7 @@ pub enum Trap {
 }
 
 // 1.1.8 Exception, 1.1.10 Privileged and 1.1.11 Serialization Instructions.
-#[derive(Drop)]
+#[derive(Clone, Copy)]
 pub enum System {
     Syscall,
     Break,
@@ -112,7 +112,7 @@ pub enum System {
     Sync,
 }
 
-#[derive(Drop)]
+#[derive(Clone, Copy)]
 pub enum Kind {
     Alu(Alu),
     Immediate(Immediate),
@@ -125,7 +125,7 @@ pub enum Kind {
 }
 
 // An instruction; a field that its kind does not have is 0. `value` is the raw constant, offset, jump index, code or stype.
-#[derive(Drop)]
+#[derive(Clone, Copy)]
 pub struct Instruction {
     pub kind: Kind,
     pub rs: u32,

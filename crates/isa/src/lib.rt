@@ -1,4 +1,6 @@
 // The instruction set: its instructions as data, and the formats of their words.
+#![tactic(auto)]
+
 pub mod format;
 pub mod kind;
 pub mod name;

@@ -4,7 +4,7 @@ ghost use Rattle.isa.specs.Reading.{is_control};
 
 use crate::kind::Instruction;
 
-#[derive(Drop)]
+#[derive(Clone, Copy)]
 pub enum Reading {
     Legal(Instruction),
     NoInstruction,

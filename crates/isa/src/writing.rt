@@ -1,5 +1,5 @@
 // What an instruction is written as.
-#[derive(Drop)]
+#[derive(Clone, Copy)]
 pub enum Written {
     Word(u32),
     // refusal 18: a field is too wide or not legal

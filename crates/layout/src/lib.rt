@@ -1,10 +1,12 @@
 // The sandbox layout: where a module's code and data lie in memory, and what is refused of it.
+#![tactic(auto)]
+
 ghost use Rattle.std.specs.Prelude.{◌≡◌, ◌<◌};
 ghost use Rattle.layout.specs.Layout as Spec;
 
 use word::bytes;
 
-#[derive(Drop)]
+#[derive(Clone, Copy)]
 pub struct Layout {
     pub code_base: u32,
     pub code_size: u32,

@@ -1,4 +1,6 @@
 // Reads a module from standard input and prints a line for each of its words: index, word, and the instruction with its fields.
+#![tactic(auto)]
+
 ghost use Rattle.std.specs.Prelude.{◌<◌};
 
 use cc100_instruction::ReadAnswer;

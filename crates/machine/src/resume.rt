@@ -6,7 +6,7 @@ ghost use Rattle.machine.specs.Resume as Spec;
 use crate::state::State;
 
 // 0 and the state that goes on, or the refusal's number and the state as it was.
-#[derive(Drop)]
+#[derive(Clone, Copy)]
 pub struct Resumed {
     pub number: u32,
     pub state: State,

@@ -8,7 +8,7 @@ use crate::state::State;
 use effect::effect::{Special, Touched};
 
 // The outcome's number (0: still running), the steps completed, the last access among them, and the state reached.
-#[derive(Drop)]
+#[derive(Clone, Copy)]
 pub struct Ran {
     pub number: u32,
     pub steps: u32,
@@ -17,7 +17,7 @@ pub struct Ran {
 }
 
 // The same with that access in two words, as the loop keeps it.
-#[derive(Drop)]
+#[derive(Clone, Copy)]
 pub struct RanWords {
     pub number: u32,
     pub steps: u32,
@@ -27,7 +27,7 @@ pub struct RanWords {
 }
 
 // The same with the 32 registers left where they were lent.
-#[derive(Drop)]
+#[derive(Clone, Copy)]
 struct Course {
     number: u32,
     steps: u32,

@@ -6,7 +6,7 @@ use effect::effect::Special;
 use word::bytes;
 
 // The 32 registers, HI, LO, the program counters, the LL bit, and control registers 8 (bad), 12 (status), 13 (cause) and 14 (epc).
-#[derive(Drop)]
+#[derive(Clone, Copy)]
 pub struct State {
     pub registers: [u32; 32],
     pub hi: u32,

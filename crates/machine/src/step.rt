@@ -11,7 +11,7 @@ use effect::effect::{Effect, Special, Touched};
 use isa::reading::Reading;
 
 // The outcome's number, the access that the step completes, and the state that it leaves.
-#[derive(Drop)]
+#[derive(Clone, Copy)]
 pub struct Stepped {
     pub number: u32,
     pub touched: Touched,
@@ -19,7 +19,7 @@ pub struct Stepped {
 }
 
 // The same with that access in two words, as `apply` keeps it.
-#[derive(Drop)]
+#[derive(Clone, Copy)]
 pub struct SteppedWords {
     pub number: u32,
     pub address: u32,

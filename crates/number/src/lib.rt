@@ -1,4 +1,6 @@
 // Instructions by number: 1 to 72, in the order of document 004, section 1.2.
+#![tactic(auto)]
+
 ghost use Rattle.std.specs.Prelude.{◌≡◌};
 ghost use Rattle.isa.specs.Table.{alu_row, immediate_row, shift_row, multiply_row, access_row, branch_row, trap_row, system_row};
 ghost use Rattle.number.specs.Number.{number_of, kind_of};
@@ -7,7 +9,7 @@ use isa::kind::{Access, Alu, Branch, Immediate, Kind, Multiply, Shift, System, T
 use isa::name;
 
 // The instruction with a number.
-#[derive(Drop)]
+#[derive(Clone, Copy)]
 pub enum Numbered {
     Known(Kind),
     Unknown,

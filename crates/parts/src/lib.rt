@@ -1,4 +1,6 @@
 // What an effect changes, one thing at a time: a register, the others by value, memory, and the two words that keep the last access.
+#![tactic(auto)]
+
 ghost use Rattle.std.specs.Prelude.{◌≡◌, false, ◌+◌, ◌^◌, ◌≤◌, ◌<◌, length, set};
 ghost use Rattle.word.specs.Bytes.{load_of, store_of};
 ghost use Rattle.effect.specs.Touched.{touched_in};

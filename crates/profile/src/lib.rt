@@ -1,4 +1,6 @@
 // The profile's two rules: where branches lead, and the last bundle.
+#![tactic(auto)]
+
 ghost use Rattle.std.specs.Prelude.{◌≡◌, ◌+◌, ◌*◌, ◌^◌, ◌<◌};
 ghost use Rattle.view.specs.View.{word_view};
 ghost use Rattle.rules.specs.Rules.{Sized};

@@ -1,4 +1,6 @@
 // A word read: its entry in the tables, and the function for the format of the instruction that the entry names.
+#![tactic(auto)]
+
 ghost use Rattle.std.specs.Prelude.{◌≡◌};
 ghost use Rattle.isa.specs.Reading.{read_of};
 

@@ -1,4 +1,6 @@
 // The rules of words, 10 to 15, each by itself: does one word of an image break it?
+#![tactic(auto)]
+
 pub mod guard;
 pub mod image;
 pub mod landing;

@@ -1,4 +1,6 @@
 // Words as signed integers: comparison, range tests, products, quotients and shifts, by unsigned arithmetic.
+#![tactic(auto)]
+
 ghost use Rattle.std.specs.Prelude.{◌≡◌, ◌^◌, ◌<◌, pos, ◌+ℤ◌, ◌-ℤ◌, ◌*ℤ◌, neg_ℤ, if◌then◌else◌, int_div, int_lt, int_rem, unsigned_abs};
 ghost use Rattle.std.specs.Int.Signed.{shr_z, non_neg};
 ghost use Rattle.word.specs.Number.{signed_of, fits_of, wrap_of, sum_of};

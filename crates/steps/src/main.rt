@@ -2,6 +2,8 @@
 // A case is 43 little-endian words, the state in the order of document 01, the memory's length (at most 84) and the number of steps to take,
 // and 84 bytes, the first of them the memory. A line is the last step's number, then each word of the state that changed, by its place
 // in that order, and each byte of memory that changed, by its address.
+#![tactic(auto)]
+
 ghost use Rattle.std.specs.Prelude.{◌+◌, ◌≤◌, ◌<◌, ◌≡◌, length};
 
 use libc::{STDIN_FILENO, STDOUT_FILENO};

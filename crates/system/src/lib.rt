@@ -1,4 +1,6 @@
 // Exceptions, privileged instructions and SYNC. b is GPR[rt].
+#![tactic(auto)]
+
 ghost use Rattle.std.specs.Prelude.{◌≡◌};
 ghost use Rattle.system.specs.System as Spec;
 

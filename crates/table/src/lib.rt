@@ -1,4 +1,6 @@
 // The kind that a word can be, looked up in the four tables.
+#![tactic(auto)]
+
 ghost use Rattle.std.specs.Prelude.{◌≡◌, get_or};
 ghost use Rattle.word.specs.Field.{cut_of};
 ghost use Rattle.word.specs.Number.{difference_of};

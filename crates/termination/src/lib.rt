@@ -1,1 +1,2 @@
 // A straight-through module ends: definitions in specs/, theorems in proofs/; no code of its own.
+#![tactic(auto)]

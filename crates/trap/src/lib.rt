@@ -1,4 +1,6 @@
 // Traps. a is GPR[rs], b is GPR[rt].
+#![tactic(auto)]
+
 ghost use Rattle.std.specs.Prelude.{◌≡◌};
 ghost use Rattle.std.specs.Int.Signed.{le_z};
 ghost use Rattle.word.specs.Number.{signed_of};

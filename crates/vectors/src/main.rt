@@ -1,5 +1,7 @@
 // Reads cases from standard input, 28 bytes each, and prints what cc100_read and cc100_write answer.
 // A case is seven little-endian words: 0 and a word to be read, or 1 and kind, rs, rt, rd, shift and value to be written.
+#![tactic(auto)]
+
 ghost use Rattle.std.specs.Prelude.{◌+◌, ◌≤◌, length};
 
 use libc::{STDIN_FILENO, STDOUT_FILENO};

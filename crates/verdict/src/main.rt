@@ -1,5 +1,7 @@
 // Reads a module from standard input and prints the checker's verdict on it, one line: accept and the count of its words, or refuse,
 // the number of the rule, and the index of the word where it is broken or - where there is none.
+#![tactic(auto)]
+
 ghost use Rattle.std.specs.Prelude.{◌≡◌, ◌≤◌, length};
 ghost use Rattle.verdict.specs.Program.{verdict_of};
 

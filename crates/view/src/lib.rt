@@ -1,4 +1,6 @@
 // What the checker's rules look at in a word.
+#![tactic(auto)]
+
 ghost use Rattle.std.specs.Prelude.{◌≡◌};
 ghost use Rattle.view.specs.View as Spec;
 
@@ -6,7 +8,7 @@ use class::Flow;
 use isa::kind::{Instruction, Kind, System};
 use isa::reading::Reading;
 
-#[derive(Drop)]
+#[derive(Clone, Copy)]
 pub struct View {
     // reads as an instruction
     pub legal: bool,

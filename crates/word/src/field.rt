@@ -2,7 +2,7 @@
 ghost use Rattle.std.specs.Prelude.{◌≡◌, ◌+◌, ◌*◌, ◌^◌, ◌<◌};
 ghost use Rattle.word.specs.Field.{cut_of, join_of, Fit};
 
-#[derive(Drop)]
+#[derive(Clone, Copy)]
 pub struct Fields {
     pub op: u32,
     pub rs: u32,

@@ -1,4 +1,6 @@
 // An instruction written as a word, field by field after its format's drawing.
+#![tactic(auto)]
+
 ghost use Rattle.std.specs.Prelude.{◌≡◌, ◌<◌};
 ghost use Rattle.isa.specs.Writing.{operand_fits, field_of, rest, rest_rs, encode_of, legal, write_of};
 
@@ -59,7 +61,7 @@ fn rest_of(role: Role, bits: u32, v: u32) -> u32
     }
 }
 
-#[derive(Drop)]
+#[derive(Clone, Copy)]
 struct Encoded {
     fields: Fields,
     rest: u32,

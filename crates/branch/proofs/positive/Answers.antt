@@ -1,0 +1,6 @@
+use Rattle.signed.proofs.Order.{signed_zero}
+use borrow.Author.Rules.{rules}
+use Rattle.branch.proofs.positive.Goals as goal
+
+pub returns : goal.returns
+returns c = rw (c.less.ensures, signed_zero)

@@ -1,0 +1,7 @@
+use Rattle.branch.specs.Branch.{region_of}
+use borrow.Author.Rules.{rules}
+use Rattle.branch.proofs.region.Goals as goal
+
+pub returns : goal.returns
+unfolding region_of
+returns c = rw c.slot.ensures

@@ -1,0 +1,24 @@
+use mathlib.Core.Path.{ap, refl, ◌∙◌}
+use Prim.Native.Nat.{◌<◌, ◌^◌}
+use native.Mathlib.Omega.{arith}
+use borrow.Author.Rules.{rules}
+use Rattle.word.specs.declared.field.Fields.{Fields}
+use Rattle.isa.specs.Reading.{read_as}
+use Rattle.isa.proofs.Formats.{condition}
+use Rattle.isa.proofs.Codes.{table_of}
+use Rattle.table.proofs.Reading.{by_condition, read_entry}
+use Rattle.formats.proofs.condition.Goals as goal
+
+pub returns : goal.returns
+returns c =
+    let f = c.cut-f.result in
+    let e = c.cut-f.ensures.0 in
+    let small : c.args.w < 2 ^ 32 = omega arith in
+    let t = by_condition c.args.w small c.args.k c.requires.1 (ap table_of c.requires.0) in
+    condition c.args.k f c.requires.0 (ap (λ (x : Fields). x.op) e ∙ t.0) (ap (λ (x : Fields). x.rt) e ∙ t.1)
+    c.low16.ensures c.instruction.ensures refl
+    ∙ ap (read_as c.args.k) e
+    ∙ read_entry c.args.w small c.args.k c.requires.1
+
+pub low16-requires : goal.low16-requires
+low16-requires c = c.cut-f.ensures.1

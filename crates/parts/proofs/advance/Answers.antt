@@ -1,0 +1,5 @@
+use borrow.Author.Rules.{rules}
+use Rattle.parts.proofs.advance.Goals as goal
+
+pub returns : goal.returns
+returns c = rw (c.jump.ensures, c.slot.ensures)

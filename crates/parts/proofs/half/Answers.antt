@@ -1,0 +1,11 @@
+use Rattle.parts.specs.Parts.{loaded_of}
+use borrow.Author.Rules.{rules}
+use Rattle.parts.proofs.half.Goals as goal
+
+pub returns-then-signed : goal.returns-then-signed
+unfolding loaded_of
+returns-then-signed c = rw (c.if-signed.true, c.extend16.ensures, c.load16-x.ensures.0)
+
+pub returns : goal.returns
+unfolding loaded_of
+returns c = rw c.if-signed.false c.load16-x.ensures.0

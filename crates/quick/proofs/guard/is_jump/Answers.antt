@@ -1,0 +1,6 @@
+use Rattle.quick.proofs.Guards.{jumps}
+use borrow.Author.Rules.{rules}
+use Rattle.quick.proofs.guard.is_jump.Goals as goal
+
+pub returns : goal.returns
+returns c = jumps _ c.cut-f.ensures.0 c.cut-f.ensures.1 c.is_register_jump.ensures

@@ -1,0 +1,6 @@
+use Rattle.quick.proofs.Guards.{mask_told}
+use borrow.Author.Rules.{rules}
+use Rattle.quick.proofs.guard.is_mask.Goals as goal
+
+pub returns : goal.returns
+returns c = mask_told _ c.cut-f.ensures.0 _

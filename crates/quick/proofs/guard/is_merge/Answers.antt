@@ -1,0 +1,6 @@
+use Rattle.quick.proofs.Guards.{merge_told}
+use borrow.Author.Rules.{rules}
+use Rattle.quick.proofs.guard.is_merge.Goals as goal
+
+pub returns : goal.returns
+returns c = merge_told _ c.cut-f.ensures.0 _ _

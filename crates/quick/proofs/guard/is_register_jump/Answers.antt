@@ -1,0 +1,6 @@
+use Rattle.quick.proofs.Guards.{register_jump}
+use borrow.Author.Rules.{rules}
+use Rattle.quick.proofs.guard.is_register_jump.Goals as goal
+
+pub returns : goal.returns
+returns c = register_jump _ c.cut-f.ensures.0 c.cut-f.ensures.1

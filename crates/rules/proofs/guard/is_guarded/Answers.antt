@@ -1,0 +1,7 @@
+use Rattle.rules.specs.Rules.{is_guarded}
+use borrow.Author.Rules.{rules}
+use Rattle.rules.proofs.guard.is_guarded.Goals as goal
+
+pub returns : goal.returns
+unfolding is_guarded
+returns c = rw (c.is_mask-mask.ensures, c.is_merge-merge.ensures)

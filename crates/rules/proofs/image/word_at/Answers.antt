@@ -1,0 +1,5 @@
+use borrow.Author.Rules.{rules}
+use Rattle.rules.proofs.image.word_at.Goals as goal
+
+pub returns : goal.returns
+returns c = c.load32.ensures

@@ -1,0 +1,5 @@
+use Rattle.std.proofs.Common.{rules}
+use Rattle.signed.proofs.biased.Goals as goal
+
+pub returns : goal.returns
+returns c = c.sum.ensures

@@ -1,0 +1,5 @@
+use Rattle.std.proofs.Common.{refl, rules}
+use Rattle.word.proofs.bytes.store8.Goals as goal
+
+pub returns : goal.returns
+returns c = refl

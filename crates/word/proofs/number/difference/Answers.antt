@@ -1,0 +1,5 @@
+use Rattle.std.proofs.Common.{arith, rules}
+use Rattle.word.proofs.number.difference.Goals as goal
+
+pub returns : goal.returns
+returns c = omega (arith, c.wrapping_sub_u32.ensures)
