@@ -12,10 +12,8 @@ use mathlib.Core.Path.{◌≡◌, refl, sym, ap, ◌∙◌}
 use Prim.Native.Nat.{ℕ, ◌-◌, ◌/◌, ◌≤◌}
 use Rattle.layout.specs.declared.Layout.{Layout}
 use Rattle.checker.specs.declared.verdict.Verdict.{Verdict}
+use Rattle.checker.proofs.words.words_verdict.Invariants.{tried}
 use Rattle.checker.proofs.words.words_verdict.Goals as goal
-
-abbrev tried : Layout → List ℕ → ℕ → ℕ → Verdict
-tried layout image n i = words_by (is_word_broken layout image) trials_at trials_after n i
 
 pub loop-i-init : goal.loop-i-init
 loop-i-init c = (omega arith, (refl, (ap is_branch (none_before _), rw sub-zero)))
@@ -25,14 +23,14 @@ unfolding words_verdict
 returns-then-t-ne0 c =
     let v = c.loop-i.invariant.1.1 in
     let g = tried_gives _ _ _ v.0 c.try_word-t.ensures in
-    let e = scan_stop _ _ trials_after _ _ _ g c.loop-i-test.true c.if-t-ne0.true in
+    let e = scan_stop _ trials_at trials_after _ _ _ g c.loop-i-test.true c.if-t-ne0.true in
     c.at.ensures ∙ e ∙ v.1 ∙ ap (λ (k : ℕ). tried c.args.layout c.args.image.now (k / 4) 0) c.requires.length_is
 
 pub loop-i-preserved : goal.loop-i-preserved
 loop-i-preserved c =
     let v = c.loop-i.invariant.1.1 in
     let t = c.try_word-t.ensures in
-    (omega arith, (refl, (next_after _ _ _ v.0 t, scan_go _ _ trials_after _ _ _ (tried_gives _ _ _ v.0 t) c.loop-i-test.true c.if-t-ne0.false ∙ v.1)))
+    (omega arith, (refl, (next_after _ _ _ v.0 t, scan_go _ trials_at trials_after _ _ _ (tried_gives _ _ _ v.0 t) c.loop-i-test.true c.if-t-ne0.false ∙ v.1)))
 
 pub returns-then-is_jump : goal.returns-then-is_jump
 unfolding words_verdict

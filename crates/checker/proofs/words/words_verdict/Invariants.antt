@@ -1,24 +1,20 @@
-use Rattle.checker.proofs.Scan.{none_before, tried_gives, next_after, scan_stop, scan_go, scan_end, ended}
+use Rattle.std.proofs.Common.{◌≡◌, ◌-◌, ◌/◌, ◌≤◌, ℕ, List, length}
 use Rattle.checker.specs.Check.{trials_at, trials_after, is_word_broken}
-use Rattle.checker.specs.Scan.{words_by, words_verdict}
+use Rattle.checker.specs.Scan.{words_by}
+use Rattle.checker.specs.declared.verdict.Verdict.{Verdict}
+use Rattle.layout.specs.declared.Layout.{Layout}
 use Rattle.rules.specs.Rules.{view_before}
 use Rattle.view.specs.View.{is_branch}
-use borrow.Author.Rules.{rules}
-use lib.ListN.{length}
-use native.Mathlib.Omega.{arith}
-use native.Mathlib.Nat.{sub-zero}
-use mathlib.Core.List.{List}
-use mathlib.Core.Path.{◌≡◌, refl, sym, ap, ◌∙◌}
-use Prim.Native.Nat.{ℕ, ◌-◌, ◌/◌, ◌≤◌}
-use Rattle.layout.specs.declared.Layout.{Layout}
-use Rattle.checker.specs.declared.verdict.Verdict.{Verdict}
 use Rattle.checker.proofs.words.words_verdict.Given as goal
 
--- LOOPS [[["loop", "loop-i"], ["layout", "image", "n", "after", "i"]]]
-abbrev invariant-loop : tie.invariant-loop
-invariant-loop layout image n after₀ i₀ after i =
-    (i ≤ n)
-    × ((n ≡ length image / 4) × ((after ≡ is_branch (view_before image i)) × (tried layout image (n - i) i ≡ tried layout image n 0)))
+abbrev pub tried : Layout → List ℕ → ℕ → ℕ → Verdict
+tried layout image n i = words_by (is_word_broken layout image) trials_at trials_after n i
 
-abbrev decreases-loop : tie.decreases-loop
-decreases-loop layout image n after₀ i₀ after i = n - i
+abbrev pub invariant-loop-i : goal.invariant-loop-i
+invariant-loop-i l =
+    (l.i ≤ l.n)
+    × ((l.n ≡ length l.image / 4)
+      × ((l.after ≡ is_branch (view_before l.image l.i)) × (tried l.layout l.image (l.n - l.i) l.i ≡ tried l.layout l.image l.n 0)))
+
+abbrev pub decreases-loop-i : goal.decreases-loop-i
+decreases-loop-i l = l.n - l.i
