@@ -1,0 +1,5 @@
+use borrow.Author.Rules.{rules}
+use Rattle.machine.proofs.state.State.resumed.Goals as goal
+
+pub returns : goal.returns
+returns c = rw c.slot.ensures
