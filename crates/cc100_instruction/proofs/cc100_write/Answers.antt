@@ -1,0 +1,12 @@
+use Rattle.cc100_instruction.specs.Instruction.{write_answer}
+use Rattle.number.specs.Number.{kind_of}
+use Rattle.number.specs.declared.Numbered.TheVariants.{Known, Unknown}
+use mathlib.Core.Path.{◌≡◌, ap, sym, ◌∙◌}
+use borrow.Author.Rules.{rules}
+use Rattle.cc100_instruction.proofs.cc100_write.Goals as goal
+
+pub returns-in-Unknown : goal.returns-in-Unknown
+returns-in-Unknown c =
+    let unknown : kind_of c.args.kind ≡ Unknown =
+    sym c.kind_of.ensures ∙ c.in-Unknown.is in
+    rw (unknown)
