@@ -1,5 +1,5 @@
 -- Document 004, sections 1.1.1 to 1.1.4: one clause for each instruction, beside its Operation in 1.2. a is GPR[rs], b is GPR[rt].
-use Rattle.std.specs.Prelude.{ℕ, ◌+◌, ◌*◌, ◌-◌, ◌%◌, ◌/◌, ◌^◌, Bool, cond, eqb, ltb, ℤ, ◌+ℤ◌, ◌-ℤ◌, ◌*ℤ◌}
+use Rattle.std.specs.Prelude.{ℕ, ◌*◌, ◌-◌, ◌%◌, ◌/◌, ◌^◌, Bool, cond, eqb, ltb, ℤ, ◌+ℤ◌, ◌-ℤ◌, ◌*ℤ◌}
 use Rattle.std.specs.Int.Bits.{bit_and, bit_or, bit_xor}
 use Rattle.std.specs.Int.Signed.{lt_z, quot_z, rem_z, shr_z}
 use Rattle.word.specs.Number.{signed_of, fits_of, wrap_of, extend_of, sum_of, difference_of}

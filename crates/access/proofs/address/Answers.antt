@@ -1,5 +1,4 @@
 use Rattle.access.specs.Access.{address_of}
-use borrow.Author.Rules.{rules}
 use Rattle.access.proofs.address.Goals as goal
 
 pub returns : goal.returns

@@ -2,7 +2,6 @@ use Prim.Native.Nat.{◌%◌}
 use native.Mathlib.Omega.{arith}
 use borrow.Author.Tests.{eq-eqb}
 use Rattle.access.specs.Access.{reaches}
-use borrow.Author.Rules.{rules}
 use Rattle.access.proofs.reaches1.Goals as goal
 
 pub returns : goal.returns

@@ -1,6 +1,5 @@
 use mathlib.Core.Path.{refl}
 use Rattle.access.specs.Access.{reaches}
-use borrow.Author.Rules.{rules}
 use Rattle.access.proofs.reaches2.Goals as goal
 
 pub returns : goal.returns

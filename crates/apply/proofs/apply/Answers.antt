@@ -1,4 +1,3 @@
-use borrow.Author.Rules.{rules}
 use Rattle.effect.specs.declared.effect.Touched.TheVariants.{Load, Store}
 use Rattle.parts.proofs.Last.{kept}
 use Rattle.apply.proofs.apply.Goals as goal

@@ -1,7 +1,6 @@
 use native.Mathlib.Omega.{arith}
 use Rattle.signed.proofs.Words.{sum_word}
 use Rattle.arithmetic.specs.Arithmetic.{checked}
-use borrow.Author.Rules.{rules}
 use Rattle.arithmetic.proofs.added.Goals as goal
 
 pub returns-then-sum_fits : goal.returns-then-sum_fits

@@ -1,6 +1,5 @@
 use borrow.Author.Tests.{eq-eqb, ne_eqb}
 use Rattle.arithmetic.specs.Arithmetic.{divided}
-use borrow.Author.Rules.{rules}
 use Rattle.arithmetic.proofs.divided.Goals as goal
 
 pub returns-then-b-eq0 : goal.returns-then-b-eq0

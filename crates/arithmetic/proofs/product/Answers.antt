@@ -1,6 +1,5 @@
 use mathlib.Core.Path.{refl}
 use Rattle.arithmetic.specs.Arithmetic.{product}
-use borrow.Author.Rules.{rules}
 use Rattle.arithmetic.proofs.product.Goals as goal
 
 pub returns : goal.returns

@@ -1,6 +1,5 @@
 use native.Mathlib.Omega.{arith}
 use Rattle.signed.proofs.Words.{product_below}
-use borrow.Author.Rules.{rules}
 use Rattle.arithmetic.proofs.product_unsigned.Goals as goal
 
 pub overflow_mul-result : goal.overflow_mul-result

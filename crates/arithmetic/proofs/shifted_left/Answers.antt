@@ -1,6 +1,5 @@
 use mathlib.Core.Path.{refl}
 use Rattle.arithmetic.specs.Arithmetic.{shifted_left}
-use borrow.Author.Rules.{rules}
 use Rattle.arithmetic.proofs.shifted_left.Goals as goal
 
 pub returns : goal.returns

@@ -1,6 +1,5 @@
 use mathlib.Core.Path.{refl}
 use Rattle.arithmetic.specs.Arithmetic.{shifted_right}
-use borrow.Author.Rules.{rules}
 use Rattle.arithmetic.proofs.shifted_right.Goals as goal
 
 pub returns : goal.returns

@@ -1,5 +1,4 @@
 use Rattle.arithmetic.specs.Arithmetic.{shifted_signed}
-use borrow.Author.Rules.{rules}
 use Rattle.arithmetic.proofs.shifted_signed.Goals as goal
 
 pub returns : goal.returns

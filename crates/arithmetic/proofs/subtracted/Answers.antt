@@ -1,7 +1,6 @@
 use native.Mathlib.Omega.{arith}
 use Rattle.signed.proofs.Words.{difference_word}
 use Rattle.arithmetic.specs.Arithmetic.{checked}
-use borrow.Author.Rules.{rules}
 use Rattle.arithmetic.proofs.subtracted.Goals as goal
 
 pub returns-then-difference_fits : goal.returns-then-difference_fits

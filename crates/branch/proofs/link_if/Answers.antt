@@ -1,5 +1,4 @@
 use Rattle.branch.specs.Branch.{link_if}
-use borrow.Author.Rules.{rules}
 use Rattle.branch.proofs.link_if.Goals as goal
 
 pub returns-then-t : goal.returns-then-t

@@ -1,7 +1,6 @@
 use Rattle.word.specs.Number.{signed_of}
 use lib.IntN.{pos}
 use Rattle.signed.proofs.Order.{signed_zero, not_less}
-use borrow.Author.Rules.{rules}
 use Rattle.branch.proofs.not_positive.Goals as goal
 
 pub returns : goal.returns

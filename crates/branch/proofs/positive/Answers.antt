@@ -1,5 +1,4 @@
 use Rattle.signed.proofs.Order.{signed_zero}
-use borrow.Author.Rules.{rules}
 use Rattle.branch.proofs.positive.Goals as goal
 
 pub returns : goal.returns

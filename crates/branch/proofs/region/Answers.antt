@@ -1,5 +1,4 @@
 use Rattle.branch.specs.Branch.{region_of}
-use borrow.Author.Rules.{rules}
 use Rattle.branch.proofs.region.Goals as goal
 
 pub returns : goal.returns

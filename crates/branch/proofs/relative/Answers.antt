@@ -1,5 +1,4 @@
 use Rattle.branch.specs.Branch.{relative_of}
-use borrow.Author.Rules.{rules}
 use Rattle.branch.proofs.relative.Goals as goal
 
 pub returns : goal.returns

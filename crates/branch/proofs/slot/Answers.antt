@@ -1,5 +1,4 @@
 use Rattle.branch.specs.Branch.{slot_of}
-use borrow.Author.Rules.{rules}
 use Rattle.branch.proofs.slot.Goals as goal
 
 pub returns : goal.returns

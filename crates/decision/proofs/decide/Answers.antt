@@ -1,4 +1,3 @@
-use borrow.Author.Rules.{rules}
 use Rattle.decision.specs.Decision.{decision_of}
 use Rattle.decision.proofs.decide.Goals as goal
 

@@ -1,7 +1,6 @@
 use mathlib.Core.Path.{ap, ◌∙◌}
 use Prim.Native.Nat.{◌<◌, ◌^◌}
 use native.Mathlib.Omega.{arith}
-use borrow.Author.Rules.{rules}
 use Rattle.word.specs.declared.field.Fields.{Fields}
 use Rattle.isa.specs.Reading.{read_as}
 use Rattle.isa.proofs.Formats.{upper_constant}

@@ -1,5 +1,4 @@
 use Rattle.layout.proofs.Sizes.{data_size}
-use borrow.Author.Rules.{rules}
 use Rattle.layout.proofs.is_data_size.Goals as goal
 
 pub returns : goal.returns

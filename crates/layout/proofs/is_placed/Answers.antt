@@ -1,6 +1,5 @@
 use Rattle.layout.specs.Layout.{is_placed}
 use mathlib.Core.Path.{refl}
-use borrow.Author.Rules.{rules}
 use Rattle.layout.proofs.is_placed.Goals as goal
 
 pub returns : goal.returns

@@ -1,4 +1,3 @@
-use borrow.Author.Rules.{rules}
 use Rattle.parts.proofs.advance.Goals as goal
 
 pub returns : goal.returns

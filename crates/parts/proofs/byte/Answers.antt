@@ -1,5 +1,4 @@
 use Rattle.parts.specs.Parts.{loaded_of}
-use borrow.Author.Rules.{rules}
 use Rattle.parts.proofs.byte.Goals as goal
 
 pub returns-then-signed : goal.returns-then-signed

@@ -1,4 +1,3 @@
-use borrow.Author.Rules.{rules}
 use Rattle.parts.proofs.Registers.{put_other, put_none}
 use Rattle.parts.proofs.put.Goals as goal
 

@@ -1,5 +1,4 @@
 use Rattle.profile.proofs.Tests.{by_register, directed, undirected}
-use borrow.Author.Rules.{rules}
 use Rattle.profile.proofs.breaks20.Goals as goal
 
 pub returns-then-v : goal.returns-then-v

@@ -2,7 +2,6 @@ use Rattle.profile.proofs.Tests.{bundle_is}
 use Rattle.profile.specs.Rules.{differs}
 use Prim.Native.Nat.{ℕ, ◌/◌}
 use mathlib.Core.Path.{ap, ◌∙◌}
-use borrow.Author.Rules.{rules}
 use Rattle.profile.proofs.breaks21.Goals as goal
 
 pub returns : goal.returns

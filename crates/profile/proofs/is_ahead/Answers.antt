@@ -1,6 +1,5 @@
 use Rattle.profile.specs.Rules.{is_ahead}
 use mathlib.Core.Path.{refl}
-use borrow.Author.Rules.{rules}
 use Rattle.profile.proofs.is_ahead.Goals as goal
 
 pub returns : goal.returns

@@ -1,6 +1,5 @@
 use native.Mathlib.Omega.{arith}
 use Rattle.profile.proofs.Bits.{back_told}
-use borrow.Author.Rules.{rules}
 use Rattle.profile.proofs.is_back.Goals as goal
 
 pub returns : goal.returns

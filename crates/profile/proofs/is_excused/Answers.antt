@@ -1,5 +1,4 @@
 use Rattle.profile.specs.Rules.{is_excused}
-use borrow.Author.Rules.{rules}
 use Rattle.profile.proofs.is_excused.Goals as goal
 
 pub returns : goal.returns

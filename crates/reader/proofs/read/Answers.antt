@@ -1,7 +1,6 @@
 use mathlib.Core.Path.{refl, sym, ◌∙◌}
 use Prim.Native.Nat.{◌<◌, ◌^◌}
 use native.Mathlib.Omega.{arith}
-use borrow.Author.Rules.{rules}
 use Rattle.isa.proofs.Codes.{numbers}
 use Rattle.isa.proofs.Members.{apart}
 use Rattle.table.proofs.Reading.{read_none}

@@ -1,4 +1,3 @@
-use Rattle.std.proofs.Common.{rules}
 use Rattle.signed.proofs.biased.Goals as goal
 
 pub returns : goal.returns

@@ -1,5 +1,4 @@
 use Rattle.system.specs.System.{privileged}
-use borrow.Author.Rules.{rules}
 use Rattle.system.proofs.privileged.Goals as goal
 
 pub returns-then-is_user : goal.returns-then-is_user

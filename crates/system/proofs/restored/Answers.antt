@@ -2,7 +2,6 @@ use Prim.Native.Nat.{ℕ, ◌+◌, ◌*◌, ◌/◌, ◌%◌, ◌^◌}
 use mathlib.Core.Path.{◌≡◌}
 use native.Mathlib.Omega.{arith}
 use Rattle.system.specs.System.{restored}
-use borrow.Author.Rules.{rules}
 use Rattle.system.proofs.restored.Goals as goal
 
 enables : (s : ℕ) → s / 2 % 4 ≡ s / 2 ^ 0 % 2 ^ 3 / 2 * 2 ^ 0

@@ -2,7 +2,6 @@ use lib.Dec.{eqb}
 use mathlib.Core.Bool.{true, false, not, ◌&&◌}
 use mathlib.Core.Path.{◌≡◌}
 use Rattle.system.specs.System.{system_call_of}
-use borrow.Author.Rules.{rules}
 use Rattle.system.proofs.system_call.Goals as goal
 
 pub returns-then-code-is_user : goal.returns-then-code-is_user

@@ -1,6 +1,5 @@
 use Rattle.word.specs.Number.{signed_of}
 use Rattle.signed.proofs.Order.{not_less}
-use borrow.Author.Rules.{rules}
 use Rattle.trap.proofs.at_least.Goals as goal
 
 pub returns : goal.returns

@@ -1,4 +1,3 @@
-use borrow.Author.Rules.{rules}
 use Rattle.view.proofs.is_barred.Goals as goal
 
 pub returns-in-System : goal.returns-in-System

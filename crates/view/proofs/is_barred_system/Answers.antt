@@ -1,4 +1,3 @@
-use borrow.Author.Rules.{rules}
 use Rattle.view.proofs.is_barred_system.Goals as goal
 
 pub returns-in-Break : goal.returns-in-Break

@@ -1,5 +1,4 @@
 use Rattle.view.proofs.Views.{legal_view, no_view}
-use borrow.Author.Rules.{rules}
 use Rattle.view.proofs.of_word.Goals as goal
 
 pub returns-in-Legal : goal.returns-in-Legal

@@ -1,6 +1,5 @@
 use Rattle.view.specs.View.{seen}
 use Rattle.class.proofs.Classes.{written}
-use borrow.Author.Rules.{rules}
 use Rattle.view.proofs.seen.Goals as goal
 
 pub returns : goal.returns

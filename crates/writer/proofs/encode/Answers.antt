@@ -1,5 +1,4 @@
 use Rattle.isa.proofs.Encoding.{encoding}
-use borrow.Author.Rules.{rules}
 use Rattle.writer.proofs.encode.Goals as goal
 
 pub returns : goal.returns

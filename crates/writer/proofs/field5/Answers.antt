@@ -1,5 +1,4 @@
 use Rattle.word.proofs.Bits.{mask_mod}
-use borrow.Author.Rules.{rules}
 use Rattle.writer.proofs.field5.Goals as goal
 
 pub returns-in-Part : goal.returns-in-Part

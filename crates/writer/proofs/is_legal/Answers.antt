@@ -1,5 +1,4 @@
 use Rattle.isa.proofs.Encoding.{fitting}
-use borrow.Author.Rules.{rules}
 use Rattle.writer.proofs.is_legal.Goals as goal
 
 pub returns : goal.returns

@@ -1,4 +1,3 @@
-use borrow.Author.Rules.{rules}
 use Rattle.writer.proofs.operand_fits.Goals as goal
 
 pub returns-in-Operand : goal.returns-in-Operand

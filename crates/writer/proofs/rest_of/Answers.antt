@@ -1,4 +1,3 @@
-use borrow.Author.Rules.{rules}
 use Rattle.writer.proofs.rest_of.Goals as goal
 
 pub returns-in-Part : goal.returns-in-Part

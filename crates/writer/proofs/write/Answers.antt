@@ -1,6 +1,5 @@
 use mathlib.Core.Path.{ap}
 use Rattle.isa.proofs.Encoding.{code, drawing_found, written_fit, written, refused}
-use borrow.Author.Rules.{rules}
 use Rattle.writer.proofs.write.Goals as goal
 
 pub join-requires : goal.join-requires

@@ -1,6 +1,5 @@
 use mathlib.Core.Path.{◌∙◌}
 use Rattle.checker.proofs.Scan.{check_refused, check_tried, sized}
-use borrow.Author.Rules.{rules}
 use Rattle.checker.proofs.check.check.Goals as goal
 
 pub returns-then-number-ne0 : goal.returns-then-number-ne0

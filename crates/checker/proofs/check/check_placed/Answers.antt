@@ -1,6 +1,5 @@
 use Rattle.checker.proofs.Scan.{layout_refused, part_inside, part_is}
 use mathlib.Core.Path.{◌∙◌}
-use borrow.Author.Rules.{rules}
 use Rattle.checker.proofs.check.check_placed.Goals as goal
 
 pub returns-then-number-ne0 : goal.returns-then-number-ne0

@@ -1,5 +1,4 @@
 use Rattle.checker.specs.Scan.{file_refusal}
-use borrow.Author.Rules.{rules}
 use borrow.Author.Tests.{ne_eqb, eq-eqb}
 use Rattle.checker.proofs.check.file_refusal.Goals as goal
 

@@ -1,5 +1,4 @@
 use Rattle.checker.proofs.Scan.{plain_tried, tried_read}
-use borrow.Author.Rules.{rules}
 use Rattle.checker.proofs.words.try_word.Goals as goal
 
 pub returns-then-is_plain : goal.returns-then-is_plain

@@ -1,5 +1,4 @@
 use Rattle.checker.specs.Scan.{word_refusal}
-use borrow.Author.Rules.{rules}
 use Rattle.checker.proofs.words.word_refusal.Goals as goal
 
 pub returns-then-not-v : goal.returns-then-not-v

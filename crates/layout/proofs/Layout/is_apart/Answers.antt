@@ -1,6 +1,5 @@
 use Rattle.layout.specs.Layout.{is_apart}
 use mathlib.Core.Path.{refl}
-use borrow.Author.Rules.{rules}
 use Rattle.layout.proofs.Layout.is_apart.Goals as goal
 
 pub returns : goal.returns

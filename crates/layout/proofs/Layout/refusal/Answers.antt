@@ -2,7 +2,6 @@ use Rattle.layout.proofs.Sizes.{code_size_positive, data_size_positive}
 use Rattle.layout.specs.Layout.{layout_refusal}
 use borrow.Author.Tests.{lt-ltb, le-ltb}
 use Rattle.std.proofs.lemmas.Bool.{not_from_true}
-use borrow.Author.Rules.{rules}
 use Rattle.layout.proofs.Layout.refusal.Goals as goal
 
 pub returns-then-length : goal.returns-then-length

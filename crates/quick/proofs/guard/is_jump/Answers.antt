@@ -1,5 +1,4 @@
 use Rattle.quick.proofs.Guards.{jumps}
-use borrow.Author.Rules.{rules}
 use Rattle.quick.proofs.guard.is_jump.Goals as goal
 
 pub returns : goal.returns

@@ -1,5 +1,4 @@
 use Rattle.quick.proofs.Guards.{mask_told}
-use borrow.Author.Rules.{rules}
 use Rattle.quick.proofs.guard.is_mask.Goals as goal
 
 pub returns : goal.returns

@@ -1,5 +1,4 @@
 use Rattle.quick.proofs.Guards.{needs_guard_law}
-use borrow.Author.Rules.{rules}
 use Rattle.table.specs.Tables.{opcodes}
 use Rattle.quick.specs.Set.{is_in}
 use Rattle.quick.proofs.guard.needs_guard.Goals as goal

@@ -1,5 +1,4 @@
 use Rattle.quick.proofs.Plains.{opcode_plain, word_plain}
-use borrow.Author.Rules.{rules}
 use Rattle.table.specs.Tables.{opcodes}
 use Rattle.quick.specs.Set.{is_in}
 use Rattle.quick.proofs.plain.is_plain.Goals as goal

@@ -1,5 +1,4 @@
 use Rattle.quick.proofs.Plains.{frequent_plain, other_plain}
-use borrow.Author.Rules.{rules}
 use Rattle.table.specs.Tables.{functions}
 use Rattle.quick.specs.Set.{is_in}
 use Rattle.quick.proofs.plain.is_plain_special.Goals as goal

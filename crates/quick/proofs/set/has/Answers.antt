@@ -1,6 +1,5 @@
 use mathlib.Core.Path.{refl}
 use Rattle.quick.specs.Set.{is_in}
-use borrow.Author.Rules.{rules}
 use Rattle.quick.proofs.set.has.Goals as goal
 
 pub returns : goal.returns

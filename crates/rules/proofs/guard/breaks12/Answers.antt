@@ -1,5 +1,4 @@
 use Rattle.rules.proofs.Guards.{no_access, access_early, access_guarded}
-use borrow.Author.Rules.{rules}
 use Rattle.rules.proofs.guard.breaks12.Goals as goal
 
 pub returns-then-v-eq0 : goal.returns-then-v-eq0

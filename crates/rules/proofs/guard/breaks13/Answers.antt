@@ -1,5 +1,4 @@
 use Rattle.rules.proofs.Guards.{no_register, register_early, register_guarded}
-use borrow.Author.Rules.{rules}
 use Rattle.rules.proofs.guard.breaks13.Goals as goal
 
 pub returns-then-not-v : goal.returns-then-not-v

@@ -1,6 +1,5 @@
 use Rattle.rules.specs.Rules.{fits_code}
 use mathlib.Core.Path.{refl}
-use borrow.Author.Rules.{rules}
 use Rattle.rules.proofs.guard.fits_code.Goals as goal
 
 pub returns : goal.returns

@@ -1,5 +1,4 @@
 use Rattle.rules.proofs.Guards.{negative_offset, offset_fits}
-use borrow.Author.Rules.{rules}
 use Rattle.rules.proofs.guard.fits_data.Goals as goal
 
 pub returns-then-o-ge32768 : goal.returns-then-o-ge32768

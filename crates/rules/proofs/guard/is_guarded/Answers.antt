@@ -1,5 +1,4 @@
 use Rattle.rules.specs.Rules.{is_guarded}
-use borrow.Author.Rules.{rules}
 use Rattle.rules.proofs.guard.is_guarded.Goals as goal
 
 pub returns : goal.returns

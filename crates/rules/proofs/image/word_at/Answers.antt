@@ -1,4 +1,3 @@
-use borrow.Author.Rules.{rules}
 use Rattle.rules.proofs.image.word_at.Goals as goal
 
 pub returns : goal.returns

@@ -1,5 +1,4 @@
 use Rattle.rules.proofs.Targets.{target_aligned, pc_aligned, direct, not_direct}
-use borrow.Author.Rules.{rules}
 use Rattle.rules.proofs.landing.breaks15.Goals as goal
 
 pub lands-requires : goal.lands-requires

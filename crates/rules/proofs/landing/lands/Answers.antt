@@ -1,5 +1,4 @@
 use Rattle.rules.proofs.Targets.{lands_below, lands_above, lands_last, lands_inside}
-use borrow.Author.Rules.{rules}
 use Rattle.rules.proofs.landing.lands.Goals as goal
 
 pub returns-then-target-layout : goal.returns-then-target-layout

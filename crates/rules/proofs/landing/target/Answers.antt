@@ -1,5 +1,4 @@
 use Rattle.rules.proofs.Targets.{to_relative, to_region}
-use borrow.Author.Rules.{rules}
 use Rattle.rules.proofs.landing.target.Goals as goal
 
 pub returns-then-v : goal.returns-then-v

@@ -1,5 +1,4 @@
 use Rattle.rules.specs.Rules.{broken14}
-use borrow.Author.Rules.{rules}
 use Rattle.rules.proofs.single.breaks14.Goals as goal
 
 pub returns : goal.returns

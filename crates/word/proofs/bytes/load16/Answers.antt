@@ -1,4 +1,4 @@
-use Rattle.std.proofs.Common.{arith, rules}
+use Rattle.std.proofs.Common.{arith}
 use Rattle.word.proofs.bytes.load16.Goals as goal
 
 pub returns : goal.returns

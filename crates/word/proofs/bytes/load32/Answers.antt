@@ -1,5 +1,5 @@
 use Rattle.word.proofs.Memory.{load_halves}
-use Rattle.std.proofs.Common.{arith, rules}
+use Rattle.std.proofs.Common.{arith}
 use Rattle.word.proofs.bytes.load32.Goals as goal
 
 pub returns : goal.returns

@@ -1,5 +1,5 @@
 use Rattle.word.proofs.Memory.{store_halves}
-use Rattle.std.proofs.Common.{sym, ◌∙◌, rules}
+use Rattle.std.proofs.Common.{sym, ◌∙◌}
 use Rattle.word.proofs.bytes.store32.Goals as goal
 
 pub returns : goal.returns

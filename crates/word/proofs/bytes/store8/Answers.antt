@@ -1,4 +1,4 @@
-use Rattle.std.proofs.Common.{refl, rules}
+use Rattle.std.proofs.Common.{refl}
 use Rattle.word.proofs.bytes.store8.Goals as goal
 
 pub returns : goal.returns

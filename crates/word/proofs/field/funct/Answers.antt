@@ -1,4 +1,4 @@
-use Rattle.std.proofs.Common.{ap, rules}
+use Rattle.std.proofs.Common.{ap}
 use Rattle.word.specs.declared.field.Fields.{Fields}
 use Rattle.word.proofs.field.funct.Goals as goal
 
