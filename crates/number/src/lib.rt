@@ -158,6 +158,7 @@ pub fn number_of(k: Kind) -> u32
     }
 }
 
+#[tactic(auto, unfolding(crate::specs::Number::kind_of))]
 pub fn kind_of(n: u32) -> Numbered
     ensures { result ≡ kind_of n }
 {

@@ -1,5 +1,5 @@
 -- What sign extension comes to in unsigned arithmetic, over the width.
-use Rattle.std.proofs.Common.{◌≡◌, ℕ, suc, ◌+◌, ◌-◌, ◌%◌, ◌^◌, ◌<◌, ◌≤◌, ℤ, pos, negsuc, sym, mod-lt, mod-eq_of_lt, arith, pow_pos, pow_mono, le-ltb, lt-ltb}
+use Rattle.std.proofs.Common.{◌≡◌, ℕ, suc, ◌+◌, ◌-◌, ◌%◌, ◌^◌, ◌<◌, ◌≤◌, ℤ, pos, negsuc, sym, mod-lt, mod-eq_of_lt, arith, pow_pos, pow_mono, le-ltb, lt-ltb, lit≤}
 use lib.Bits.{bit_and, mask_lt}
 use Rattle.word.specs.Number.{signed_of, wrap_of, extend_of}
 use Rattle.word.proofs.Bits.{mask_mod}
@@ -30,6 +30,25 @@ module _ (k x : ℕ) (width : k ≤ 32) where
       let l : bit_and x (2 ^ k - 1) < 2 ^ k = mask_lt x k in
       let e : (2 ^ k - suc (bit_and x (2 ^ k - 1))) % 2 ^ 32 ≡ 2 ^ k - suc (bit_and x (2 ^ k - 1)) = mod-eq_of_lt (omega arith) in
       rw (← mask_mod k x, signed_high k (bit_and x (2 ^ k - 1)) h l, e) (omega arith)
+
+-- the same at each width, for x whatever it is
+pub extend8_clear : (x : ℕ) → bit_and x 255 < 128 → bit_and x 255 ≡ extend_of 8 x
+extend8_clear x h = extend_clear 8 x (lit≤ tt) h
+
+pub extend8_set : (x : ℕ) → 128 ≤ bit_and x 255 → bit_and x 255 + 4294967040 ≡ extend_of 8 x
+extend8_set x h = extend_set 8 x (lit≤ tt) h
+
+pub extend16_clear : (x : ℕ) → bit_and x 65535 < 32768 → bit_and x 65535 ≡ extend_of 16 x
+extend16_clear x h = extend_clear 16 x (lit≤ tt) h
+
+pub extend16_set : (x : ℕ) → 32768 ≤ bit_and x 65535 → bit_and x 65535 + 4294901760 ≡ extend_of 16 x
+extend16_set x h = extend_set 16 x (lit≤ tt) h
+
+pub extend18_clear : (x : ℕ) → bit_and x 262143 < 131072 → bit_and x 262143 ≡ extend_of 18 x
+extend18_clear x h = extend_clear 18 x (lit≤ tt) h
+
+pub extend18_set : (x : ℕ) → 131072 ≤ bit_and x 262143 → bit_and x 262143 + 4294705152 ≡ extend_of 18 x
+extend18_set x h = extend_set 18 x (lit≤ tt) h
 
 pub wrap_below : (k : ℕ) (z : ℤ) → wrap_of k z < 2 ^ k
 wrap_below k (pos n) = mod-lt n (pow_pos k)

@@ -3,6 +3,7 @@ ghost use Rattle.std.specs.Prelude.{◌≡◌};
 ghost use Rattle.word.specs.Number.{extend_of, sum_of, difference_of};
 
 // sign_extend of the low 8 bits.
+#[tactic(auto, using(crate::proofs::Numbers::extend8_clear, crate::proofs::Numbers::extend8_set))]
 pub fn extend8(x: u32) -> u32
     ensures { result ≡ extend_of 8 x }
 {
@@ -11,6 +12,7 @@ pub fn extend8(x: u32) -> u32
 }
 
 // sign_extend of the low 16 bits.
+#[tactic(auto, using(crate::proofs::Numbers::extend16_clear, crate::proofs::Numbers::extend16_set))]
 pub fn extend16(x: u32) -> u32
     ensures { result ≡ extend_of 16 x }
 {
@@ -19,6 +21,7 @@ pub fn extend16(x: u32) -> u32
 }
 
 // sign_extend of the low 18 bits.
+#[tactic(auto, using(crate::proofs::Numbers::extend18_clear, crate::proofs::Numbers::extend18_set))]
 pub fn extend18(x: u32) -> u32
     ensures { result ≡ extend_of 18 x }
 {
