@@ -1,6 +1,5 @@
 use native.Mathlib.Omega.{arith}
 use Rattle.cc100.proofs.Calls.{read_state, read_too_long, read_no_state}
-use borrow.Author.Rules.{rules}
 use Rattle.cc100.proofs.read_state.Goals as goal
 
 pub returns-then-d-eq0 : goal.returns-then-d-eq0

@@ -1,6 +1,5 @@
 use Rattle.cc100_instruction.specs.Instruction.{read_answer}
 use mathlib.Core.Path.{ap, ◌∙◌}
-use borrow.Author.Rules.{rules}
 use Rattle.cc100_instruction.proofs.cc100_read.Goals as goal
 
 pub returns : goal.returns

@@ -1,8 +1,6 @@
-use Rattle.cc100_instruction.specs.Instruction.{write_answer}
 use Rattle.number.specs.Number.{kind_of}
-use Rattle.number.specs.declared.Numbered.TheVariants.{Known, Unknown}
-use mathlib.Core.Path.{◌≡◌, ap, sym, ◌∙◌}
-use borrow.Author.Rules.{rules}
+use Rattle.number.specs.declared.Numbered.TheVariants.{Unknown}
+use mathlib.Core.Path.{◌≡◌, sym, ◌∙◌}
 use Rattle.cc100_instruction.proofs.cc100_write.Goals as goal
 
 pub returns-in-Unknown : goal.returns-in-Unknown

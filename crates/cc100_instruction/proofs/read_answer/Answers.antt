@@ -1,4 +1,3 @@
-use borrow.Author.Rules.{rules}
 use Rattle.cc100_instruction.proofs.read_answer.Goals as goal
 
 pub returns-in-NoInstruction : goal.returns-in-NoInstruction

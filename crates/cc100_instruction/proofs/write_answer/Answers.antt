@@ -1,4 +1,3 @@
-use borrow.Author.Rules.{rules}
 use Rattle.cc100_instruction.proofs.write_answer.Goals as goal
 
 pub returns-in-Word : goal.returns-in-Word

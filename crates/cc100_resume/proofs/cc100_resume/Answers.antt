@@ -1,7 +1,6 @@
 use Rattle.machine.specs.Resume.{resume_of}
 use Rattle.cc100.proofs.Calls.{call_refused, call_left, call_done}
 use Rattle.machine.proofs.Resumes.{resume_leaves}
-use borrow.Author.Rules.{rules}
 use Rattle.cc100_resume.proofs.cc100_resume.Goals as goal
 
 pub returns-then-read-ne0 : goal.returns-then-read-ne0

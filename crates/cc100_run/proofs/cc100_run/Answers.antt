@@ -1,5 +1,4 @@
 use Rattle.cc100.proofs.Calls.{run_call_refused, run_call_done}
-use borrow.Author.Rules.{rules}
 use Rattle.cc100_run.proofs.cc100_run.Goals as goal
 
 pub returns-then-read-ne0 : goal.returns-then-read-ne0

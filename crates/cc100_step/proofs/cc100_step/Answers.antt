@@ -1,5 +1,4 @@
 use Rattle.cc100.proofs.Calls.{call_refused, machine_serves, step_call_done}
-use borrow.Author.Rules.{rules}
 use Rattle.cc100_step.proofs.cc100_step.Goals as goal
 
 pub returns-then-read-ne0 : goal.returns-then-read-ne0

@@ -1,5 +1,4 @@
 use mathlib.Core.Path.{sym, ◌∙◌}
-use borrow.Author.Rules.{rules}
 use Rattle.codec.specs.Bytes.{decoded_of}
 use Rattle.codec.proofs.RoundTrip.{state_length}
 use Rattle.codec.proofs.decode.decode.Goals as goal

@@ -1,7 +1,6 @@
-use Prim.Native.Nat.{◌≤◌, ◌-◌}
 use mathlib.Core.Path.{◌≡◌, refl, sym, ◌∙◌}
 use native.Mathlib.Omega.{arith}
-use lib.ListN.{length, take, length-set}
+use lib.ListN.{length-set}
 use lib.Seq.{take_all}
 use borrow.Author.Rules.{rules}
 use Rattle.codec.specs.Bytes.{words_at}
@@ -13,12 +12,11 @@ unfolding words_at
 loop-k-init c = (search rules, refl, refl)
 
 pub loop-k-preserved : goal.loop-k-preserved
-loop-k-preserved c =
-    (
-      omega arith,
-      simp length-set (search rules),
-      rw c.load32.ensures (words_more c.args.bytes.now c.loop-k.r c.loop-k.k (omega arith) c.loop-k.invariant.2),
-    )
+loop-k-preserved c = (
+  omega arith,
+  simp length-set (search rules),
+  rw c.load32.ensures (words_more c.args.bytes.now c.loop-k.r c.loop-k.k (omega arith) c.loop-k.invariant.2),
+)
 
 pub returns : goal.returns
 returns c =

@@ -1,4 +1,3 @@
-use borrow.Author.Rules.{rules}
 use Rattle.codec.specs.Bytes.{word_at, state_of}
 use Rattle.codec.proofs.decode.state_of.Goals as goal
 

@@ -1,6 +1,5 @@
 use native.Mathlib.Omega.{arith}
 use lib.ListN.{length}
-use borrow.Author.Rules.{rules}
 use borrow.Author.Tests.{ne_eqb}
 use Rattle.codec.specs.Bytes.{encoded_of}
 use Rattle.codec.proofs.RoundTrip.{encode_done}

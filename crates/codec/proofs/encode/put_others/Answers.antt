@@ -1,4 +1,3 @@
-use borrow.Author.Rules.{rules}
 use Rattle.codec.specs.Stores.{stores_of}
 use Rattle.codec.proofs.encode.put_others.Goals as goal
 

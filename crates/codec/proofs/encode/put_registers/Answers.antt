@@ -1,7 +1,6 @@
-use Prim.Native.Nat.{◌≤◌, ◌-◌, ◌*◌}
 use mathlib.Core.Path.{◌≡◌, refl, ◌∙◌}
 use native.Mathlib.Omega.{arith}
-use lib.ListN.{length, drop}
+use lib.ListN.{length}
 use borrow.Author.Rules.{rules}
 use Rattle.codec.specs.Stores.{stores_of}
 use Rattle.codec.proofs.Words.{stores_more, stores_end}

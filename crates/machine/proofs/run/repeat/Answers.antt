@@ -1,12 +1,8 @@
-use Prim.Native.Nat.{◌≤◌, ◌-◌}
-use mathlib.Core.Path.{◌≡◌, refl, ◌∙◌}
+use mathlib.Core.Path.{refl, ◌∙◌}
 use native.Mathlib.Omega.{arith}
-use lib.ListN.{length}
-use Rattle.effect.specs.declared.effect.Touched.{Touched}
 use Rattle.effect.specs.declared.effect.Touched.TheVariants.{Nothing}
-use Rattle.effect.specs.Touched.{touched_of, last_of, Keeps}
-use Rattle.machine.specs.State.{join_of, refusal_of}
-use Rattle.machine.specs.Run.{later, repeat_of}
+use Rattle.effect.specs.Touched.{touched_of, last_of}
+use Rattle.machine.specs.State.{join_of}
 use Rattle.machine.proofs.Steps.{not_refused}
 use Rattle.machine.proofs.Runs.{turn_exits, turn_lawful, turn_completes, turns_begin, turns_done}
 use borrow.Author.Rules.{rules}

@@ -12,9 +12,9 @@ invariant-loop-steps l =
     × (length l.memory ≡ length l.initial.memory)
     × (refusal_of (join_of l.registers l.special) (length l.initial.memory) ≡ 0)
     × ((t : Touched)
-      × (Keeps l.last t
-        × (later l.steps t (repeat_of (l.budget - l.steps) (join_of l.registers l.special) l.memory)
-          ≡ repeat_of l.budget (join_of l.initial.registers l.initial.special) l.initial.memory)))
+    × (Keeps l.last t
+    × (later l.steps t (repeat_of (l.budget - l.steps) (join_of l.registers l.special) l.memory)
+    ≡ repeat_of l.budget (join_of l.initial.registers l.initial.special) l.initial.memory)))
 
 abbrev pub decreases-loop-steps : goal.decreases-loop-steps
 decreases-loop-steps l = l.budget - l.steps

@@ -11,7 +11,6 @@ use Rattle.machine.specs.declared.state.State.{State}
 use Rattle.machine.specs.State.{register_of, special_of, join_of, Words}
 use Rattle.machine.proofs.Valid.{regular, apply_lawful}
 use Rattle.machine.proofs.Steps.{fetch_outside_law, fetch_nothing, fetch_decided, fetch_operands}
-use borrow.Author.Rules.{rules}
 use Rattle.machine.proofs.step.effect_at.Goals as goal
 
 pub returns-then-n-at : goal.returns-then-n-at

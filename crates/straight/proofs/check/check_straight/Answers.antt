@@ -1,7 +1,6 @@
 use mathlib.Core.Path.{◌∙◌}
 use Rattle.checker.proofs.Scan.{sized}
 use Rattle.straight.proofs.Scan.{straight_refused, straight_tried_law}
-use borrow.Author.Rules.{rules}
 use Rattle.straight.proofs.check.check_straight.Goals as goal
 
 pub returns-then-number-ne0 : goal.returns-then-number-ne0

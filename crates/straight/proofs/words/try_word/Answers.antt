@@ -1,5 +1,4 @@
 use Rattle.straight.proofs.Scan.{plain_straight, tried_read}
-use borrow.Author.Rules.{rules}
 use Rattle.straight.proofs.words.try_word.Goals as goal
 
 pub returns-then-is_plain : goal.returns-then-is_plain

@@ -1,6 +1,5 @@
 use Rattle.straight.proofs.Scan.{refused_before, refused_20, refused_none}
 use mathlib.Core.Path.{◌∙◌, sym}
-use borrow.Author.Rules.{rules}
 use Rattle.straight.proofs.words.word_refusal.Goals as goal
 
 pub returns-then-number-ne0 : goal.returns-then-number-ne0

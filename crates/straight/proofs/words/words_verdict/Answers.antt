@@ -1,19 +1,15 @@
 use Rattle.checker.proofs.Scan.{none_before, scan_stop, scan_go, scan_end}
 use Rattle.straight.proofs.Scan.{tried_gives, next_after, ended}
-use Rattle.straight.specs.Check.{straight_at, straight_after, is_straight_broken}
-use Rattle.checker.specs.Scan.{words_by}
+use Rattle.straight.specs.Check.{straight_at, straight_after}
 use Rattle.straight.specs.Scan.{straight_words}
-use Rattle.rules.specs.Rules.{view_before}
 use Rattle.view.specs.View.{is_branch}
-use borrow.Author.Rules.{rules}
 use lib.ListN.{length}
 use native.Mathlib.Omega.{arith}
 use native.Mathlib.Nat.{sub-zero}
 use mathlib.Core.List.{List}
 use mathlib.Core.Path.{◌≡◌, refl, sym, ap, ◌∙◌}
-use Prim.Native.Nat.{ℕ, ◌-◌, ◌/◌, ◌≤◌}
+use Prim.Native.Nat.{ℕ, ◌/◌}
 use Rattle.layout.specs.declared.Layout.{Layout}
-use Rattle.checker.specs.declared.verdict.Verdict.{Verdict}
 use Rattle.straight.proofs.words.words_verdict.Invariants.{tried}
 use Rattle.straight.proofs.words.words_verdict.Goals as goal
 

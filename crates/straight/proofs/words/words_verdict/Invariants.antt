@@ -14,7 +14,7 @@ abbrev pub invariant-loop-i : goal.invariant-loop-i
 invariant-loop-i l =
     (l.i ≤ l.n)
     × ((l.n ≡ length l.image / 4)
-      × ((l.after ≡ is_branch (view_before l.image l.i)) × (tried l.layout l.image (l.n - l.i) l.i ≡ tried l.layout l.image l.n 0)))
+    × ((l.after ≡ is_branch (view_before l.image l.i)) × (tried l.layout l.image (l.n - l.i) l.i ≡ tried l.layout l.image l.n 0)))
 
 abbrev pub decreases-loop-i : goal.decreases-loop-i
 decreases-loop-i l = l.n - l.i

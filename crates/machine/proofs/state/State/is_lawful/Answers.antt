@@ -1,6 +1,5 @@
 use mathlib.Core.Path.{refl}
 use Rattle.machine.specs.State.{is_lawful}
-use borrow.Author.Rules.{rules}
 use Rattle.machine.proofs.state.State.is_lawful.Goals as goal
 
 pub returns : goal.returns

@@ -1,5 +1,4 @@
 use native.Mathlib.Omega.{arith}
-use borrow.Author.Rules.{rules}
 use Rattle.machine.proofs.Steps.{too_long, not_lawful, no_refusal}
 use Rattle.machine.proofs.state.State.refusal.Goals as goal
 

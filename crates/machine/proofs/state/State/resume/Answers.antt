@@ -1,6 +1,5 @@
 use mathlib.Core.Path.{sym, ◌∙◌}
 use Rattle.machine.proofs.Resumes.{resume_refused, resume_served, resume_not_served}
-use borrow.Author.Rules.{rules}
 use Rattle.machine.proofs.state.State.resume.Goals as goal
 
 pub returns-then-refused-ne0 : goal.returns-then-refused-ne0

@@ -2,7 +2,6 @@ use mathlib.Core.Path.{refl}
 use Rattle.effect.proofs.Touched.{held_as}
 use Rattle.machine.specs.Run.{course}
 use Rattle.machine.proofs.Runs.{run_wide}
-use borrow.Author.Rules.{rules}
 use Rattle.machine.proofs.state.State.run.Goals as goal
 
 pub returns : goal.returns

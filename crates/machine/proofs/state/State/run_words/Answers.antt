@@ -1,7 +1,6 @@
 use mathlib.Core.Path.{refl, sym, ◌∙◌}
 use Rattle.effect.specs.declared.effect.Touched.TheVariants.{Nothing}
 use Rattle.machine.proofs.Runs.{run_refused, run_repeats}
-use borrow.Author.Rules.{rules}
 use Rattle.machine.proofs.state.State.run_words.Goals as goal
 
 pub returns-then-refused-ne0 : goal.returns-then-refused-ne0

@@ -2,7 +2,6 @@ use mathlib.Core.Path.{refl, sym, ◌∙◌}
 use Rattle.effect.proofs.Touched.{held_as}
 use Rattle.machine.specs.Step.{stepped}
 use Rattle.machine.proofs.Steps.{step_refused, step_wide}
-use borrow.Author.Rules.{rules}
 use Rattle.machine.proofs.state.State.step.Goals as goal
 
 pub returns-then-refused-ne0 : goal.returns-then-refused-ne0

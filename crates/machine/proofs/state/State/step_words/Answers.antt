@@ -3,7 +3,6 @@ use Rattle.effect.specs.declared.effect.Touched.TheVariants.{Nothing}
 use Rattle.effect.specs.Touched.{touched_of}
 use Rattle.effect.proofs.Touched.{last_first}
 use Rattle.machine.proofs.Steps.{step_done, not_refused}
-use borrow.Author.Rules.{rules}
 use Rattle.machine.proofs.state.State.step_words.Goals as goal
 
 pub apply-after-requires : goal.apply-after-requires
