@@ -8,6 +8,7 @@ ghost use Rattle.parts.specs.Parts as Spec;
 
 use effect::effect::{Special, Touched};
 
+#[tactic(auto, using(crate::proofs::Registers::put_other, crate::proofs::Registers::put_none))]
 fn put(registers: &mut [u32; 32], r: u32, v: u32)
     requires { r < 2 ^ 5 }
     ensures { registers.new ≡ Spec.put_of registers.old r v }
@@ -174,6 +175,7 @@ pub fn touch(last: &mut [u32; 2], address: u32, code: u32, c: Special) -> Specia
 }
 
 // The access that these two words hold.
+#[tactic(auto, using(crate::proofs::Last::holds_none, crate::proofs::Last::holds_load, crate::proofs::Last::holds_store))]
 pub fn touched(address: u32, code: u32) -> Touched
     ensures { result ≡ touched_in address code }
 {

@@ -15,6 +15,7 @@ fn is_guarded(a: u32, b: u32, base: u32, r: u32) -> bool
     mask & (merge & ((r != 0) & ((r != 26) & (r != 27))))
 }
 
+#[tactic(auto, using(crate::proofs::Guards::negative_offset, crate::proofs::Guards::offset_fits))]
 fn fits_data(size: u32, mask: u32, offset: u32, width: u32) -> bool
     requires { 0 < width }
     ensures { result ≡ Spec.fits_data size mask (offset_of offset) width }
