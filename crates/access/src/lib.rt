@@ -31,6 +31,7 @@ fn reaches4(at: u32, n: usize) -> bool
     (at % 4 == 0) & ((at as usize) + 4 <= n)
 }
 
+#[tactic(auto, unfolding(crate::specs::Access::load_if))]
 fn load_if(t: bool, e: Effect) -> Effect
     ensures { result ≡ Spec.load_if t e }
 {
@@ -41,6 +42,7 @@ fn load_if(t: bool, e: Effect) -> Effect
     }
 }
 
+#[tactic(auto, unfolding(crate::specs::Access::store_if))]
 fn store_if(t: bool, e: Effect) -> Effect
     ensures { result ≡ Spec.store_if t e }
 {
@@ -51,6 +53,7 @@ fn store_if(t: bool, e: Effect) -> Effect
     }
 }
 
+#[tactic(auto, unfolding(crate::specs::Access::conditional))]
 fn conditional(ll: bool, rt: u32, at: u32, b: u32) -> Effect
     ensures { result ≡ Spec.conditional ll rt at b }
 {
