@@ -13,6 +13,7 @@ pub struct Decoded {
 }
 
 // 17's rules of bytes.
+#[tactic(auto, unfolding(crate::specs::Bytes::is_state, crate::specs::Bytes::word_at))]
 fn is_state(bytes: &[u8]) -> bool
     ensures { result ≡ Spec.is_state bytes.now }
 {

@@ -41,6 +41,7 @@ fn put_others(s: State, bytes: &mut [u8])
 }
 
 // 0 and the state in the bytes, or 17 and the bytes as they were.
+#[tactic(auto, using(crate::proofs::RoundTrip::encode_done), unfolding(crate::specs::Bytes::encoded_of))]
 pub fn encode(s: State, bytes: &mut [u8]) -> u32
     ensures { Spec.encoded result bytes.new ≡ Spec.encoded_of s bytes.old }
 {

@@ -32,6 +32,7 @@ impl State {
     }
 
     // The refusals that step, run and resume try first; 0 where neither is due.
+    #[tactic(auto, using(crate::proofs::Steps::too_long, crate::proofs::Steps::no_refusal, crate::proofs::Steps::not_lawful))]
     pub fn refusal(self, length: usize) -> u32
         ensures { result ≡ Spec.refusal_of self length }
     {
