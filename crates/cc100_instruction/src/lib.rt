@@ -69,22 +69,13 @@ fn write_answer(w: Written) -> WriteAnswer
     }
 }
 
-#[unsafe(no_mangle)]
-pub extern "C" fn cc100_read(word: u32) -> ReadAnswer
+pub fn cc100_read(word: u32) -> ReadAnswer
     ensures { result ≡ read_answer (read_of word) }
 {
     read_answer(reader::read(word))
 }
 
-#[unsafe(no_mangle)]
-pub extern "C" fn cc100_write(
-    kind: u32,
-    rs: u32,
-    rt: u32,
-    rd: u32,
-    shift: u32,
-    value: u32,
-) -> WriteAnswer
+pub fn cc100_write(kind: u32, rs: u32, rt: u32, rd: u32, shift: u32, value: u32) -> WriteAnswer
     ensures { result ≡ write_numbered (kind_of kind) rs rt rd shift value }
 {
     match number::kind_of(kind) {

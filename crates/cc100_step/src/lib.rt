@@ -15,8 +15,7 @@ pub struct SteppedAnswer {
     pub store: u32,
 }
 
-#[unsafe(no_mangle)]
-pub extern "C" fn cc100_step(state: &mut [u8], memory: &mut [u8]) -> SteppedAnswer
+pub fn cc100_step(state: &mut [u8], memory: &mut [u8]) -> SteppedAnswer
     ensures { Spec.step_answer result.number (cell result.address result.width result.store) state.new memory.new ≡ Spec.step_call state.old memory.old }
 {
     let read = cc100::read_state(state, memory.len());

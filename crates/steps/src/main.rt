@@ -6,7 +6,8 @@
 
 ghost use Rattle.std.specs.Prelude.{◌+◌, ◌≤◌, ◌<◌, ◌≡◌, length};
 
-use libc::{STDIN_FILENO, STDOUT_FILENO};
+use std::io;
+use std::io::{Read, Write};
 
 // Where the state begins in a case.
 const STATE: usize = 0;
@@ -15,46 +16,36 @@ const MEMORY: usize = 172;
 // More cases are not read.
 const CASES: u32 = 1000000;
 
-fn print_state(before: &[u8], after: &[u8])
+fn print_state(out: &mut impl Write, before: &[u8], after: &[u8]) -> io::Result<()>
     requires { (length before.now ≡ 164) × (length after.now ≡ 164) }
 {
-    let mut i: usize = 0;
-    while i < 41 {
+    for i in 0..41usize {
         let x = word::bytes::load32(after, 4 * i);
         if word::bytes::load32(before, 4 * i) != x {
-            io::write_all(STDOUT_FILENO, b" ");
-            io::print_decimal(STDOUT_FILENO, i as u64);
-            io::write_all(STDOUT_FILENO, b"=");
-            io::print_hex(STDOUT_FILENO, x as u64, 8);
+            write!(out, " {i}={x:08x}")?;
         }
-        i += 1;
     }
+    Ok(())
 }
 
-fn print_memory(before: &[u8], after: &[u8]) {
-    let mut i: usize = 0;
-    while i < after.len() {
+fn print_memory(out: &mut impl Write, before: &[u8], after: &[u8]) -> io::Result<()> {
+    for i in 0..after.len() {
         if i < before.len() {
             let x = word::bytes::load8(after, i);
             if word::bytes::load8(before, i) != x {
-                io::write_all(STDOUT_FILENO, b" m");
-                io::print_decimal(STDOUT_FILENO, i as u64);
-                io::write_all(STDOUT_FILENO, b"=");
-                io::print_hex(STDOUT_FILENO, x as u64, 2);
+                write!(out, " m{i}={x:02x}")?;
             }
         }
-        i += 1;
     }
+    Ok(())
 }
 
 fn steps(state: &mut [u8], memory: &mut [u8], count: u32) -> u32 {
-    let mut done: u32 = 0;
-    while done < count {
+    for _ in 0..count {
         let number = cc100_step::cc100_step(state, memory).number;
         if number != 0 {
             return number;
         }
-        done += 1;
     }
     0
 }
@@ -62,14 +53,10 @@ fn steps(state: &mut [u8], memory: &mut [u8], count: u32) -> u32 {
 fn copy(from: &[u8], to: &mut [u8])
     requires { length from.now ≡ length to.old }
 {
-    let mut i: usize = 0;
-    while i < to.len() {
-        to[i] = from[i];
-        i += 1;
-    }
+    to.copy_from_slice(from);
 }
 
-fn run_case(s: &[u8], state: &mut [u8], memory: &mut [u8])
+fn run_case(out: &mut impl Write, s: &[u8], state: &mut [u8], memory: &mut [u8]) -> io::Result<()>
     requires { (length s.now ≡ 256) × ((length state.old ≡ 164) × (length memory.old ≤ 84)) }
 {
     let before = &s[STATE..STATE + state.len()];
@@ -77,36 +64,43 @@ fn run_case(s: &[u8], state: &mut [u8], memory: &mut [u8])
     copy(before, state);
     copy(from, memory);
     let number = steps(state, memory, word::bytes::load32(s, 168));
-    io::print_decimal(STDOUT_FILENO, number as u64);
-    print_state(before, state);
-    print_memory(from, memory);
-    io::write_all(STDOUT_FILENO, b"\n");
+    write!(out, "{number}")?;
+    print_state(out, before, state)?;
+    print_memory(out, from, memory)?;
+    writeln!(out)
 }
 
 // Answers whether there was a case.
-fn next_case(case: &mut [u8], state: &mut [u8], space: &mut [u8]) -> bool
+fn next_case(
+    input: &mut impl Read,
+    out: &mut impl Write,
+    case: &mut [u8],
+    state: &mut [u8],
+    space: &mut [u8],
+) -> io::Result<bool>
     requires { (length case.old ≡ 256) × ((length state.old ≡ 164) × (length space.old ≡ 84)) }
 {
-    if io::read_full(STDIN_FILENO, case) < 256 {
-        return false;
+    if input::read_full(input, case)? < 256 {
+        return Ok(false);
     }
     let n = word::bytes::load32(case, 164) as usize;
     if n <= 84 {
-        run_case(case, state, &mut space[..n]);
-        return true;
+        run_case(out, case, state, &mut space[..n])?;
+        return Ok(true);
     }
-    false
+    Ok(false)
 }
 
-fn main() {
-    let mut case = [0; 256];
-    let mut state = [0; 164];
-    let mut space = [0; 84];
-    let mut i: u32 = 0;
-    while i < CASES {
-        if !next_case(&mut case, &mut state, &mut space) {
-            return;
+fn main(rt: HostRuntime) -> io::Result<()> {
+    let mut input = rt.stdin();
+    let mut out = rt.stdout();
+    let mut case = [0u8; 256];
+    let mut state = [0u8; 164];
+    let mut space = [0u8; 84];
+    for _ in 0..CASES {
+        if !next_case(&mut input, &mut out, &mut case, &mut state, &mut space)? {
+            return Ok(());
         }
-        i += 1;
     }
+    Ok(())
 }

@@ -4,74 +4,82 @@
 
 ghost use Rattle.std.specs.Prelude.{◌+◌, ◌≤◌, length};
 
-use libc::{STDIN_FILENO, STDOUT_FILENO};
+use std::io;
+use std::io::Write;
 
-fn print_number(x: u32) {
-    io::write_all(STDOUT_FILENO, b" ");
-    io::print_decimal(STDOUT_FILENO, x as u64);
+// More input is not read, in bytes.
+const LONGEST_INPUT: usize = 65536;
+
+fn print_number(out: &mut impl Write, x: u32) -> io::Result<()> {
+    write!(out, " {x}")
 }
 
-fn print_word(x: u32) {
-    io::write_all(STDOUT_FILENO, b" 0x");
-    io::print_hex(STDOUT_FILENO, x as u64, 8);
+fn print_word(out: &mut impl Write, x: u32) -> io::Result<()> {
+    write!(out, " 0x{x:08x}")
 }
 
-fn read_case(word: u32) {
-    io::write_all(STDOUT_FILENO, b"read");
-    print_word(word);
+fn read_case(out: &mut impl Write, word: u32) -> io::Result<()> {
+    write!(out, "read")?;
+    print_word(out, word)?;
     let i = cc100_instruction::cc100_read(word);
-    io::write_all(STDOUT_FILENO, b" gives");
-    print_number(i.kind);
-    print_number(i.rs);
-    print_number(i.rt);
-    print_number(i.rd);
-    print_number(i.shift);
-    print_number(i.value);
+    write!(out, " gives")?;
+    print_number(out, i.kind)?;
+    print_number(out, i.rs)?;
+    print_number(out, i.rt)?;
+    print_number(out, i.rd)?;
+    print_number(out, i.shift)?;
+    print_number(out, i.value)
 }
 
-fn write_case(kind: u32, rs: u32, rt: u32, rd: u32, shift: u32, value: u32) {
-    io::write_all(STDOUT_FILENO, b"write");
-    print_number(kind);
-    print_number(rs);
-    print_number(rt);
-    print_number(rd);
-    print_number(shift);
-    print_number(value);
+fn write_case(
+    out: &mut impl Write,
+    kind: u32,
+    rs: u32,
+    rt: u32,
+    rd: u32,
+    shift: u32,
+    value: u32,
+) -> io::Result<()> {
+    write!(out, "write")?;
+    print_number(out, kind)?;
+    print_number(out, rs)?;
+    print_number(out, rt)?;
+    print_number(out, rd)?;
+    print_number(out, shift)?;
+    print_number(out, value)?;
     let w = cc100_instruction::cc100_write(kind, rs, rt, rd, shift, value);
-    io::write_all(STDOUT_FILENO, b" gives");
-    print_number(w.number);
-    print_word(w.word);
+    write!(out, " gives")?;
+    print_number(out, w.number)?;
+    print_word(out, w.word)
 }
 
-fn run_case(s: &[u8], at: usize)
+fn run_case(out: &mut impl Write, s: &[u8], at: usize) -> io::Result<()>
     requires { at + 28 ≤ length s.now }
 {
     let tag = word::bytes::load32(s, at);
     let a = word::bytes::load32(s, at + 4);
     if tag == 0 {
-        read_case(a);
+        read_case(out, a)?;
     } else {
         let rs = word::bytes::load32(s, at + 8);
         let rt = word::bytes::load32(s, at + 12);
         let rd = word::bytes::load32(s, at + 16);
         let shift = word::bytes::load32(s, at + 20);
         let value = word::bytes::load32(s, at + 24);
-        write_case(a, rs, rt, rd, shift, value);
+        write_case(out, a, rs, rt, rd, shift, value)?;
     }
-    io::write_all(STDOUT_FILENO, b"\n");
+    writeln!(out)
 }
 
-fn run_cases(s: &[u8]) {
-    let n = s.len() / 28;
-    let mut i = 0;
-    while i < n {
-        run_case(s, 28 * i);
-        i += 1;
+fn run_cases(out: &mut impl Write, s: &[u8]) -> io::Result<()> {
+    for i in 0..s.len() / 28 {
+        run_case(out, s, 28 * i)?;
     }
+    Ok(())
 }
 
-fn main() {
-    let mut space = io::large_buffer();
-    let n = io::read_full(STDIN_FILENO, &mut space);
-    run_cases(&space[..n]);
+fn main(rt: HostRuntime) -> io::Result<()> {
+    let mut space = [0u8; LONGEST_INPUT];
+    let n = input::read_full(&mut rt.stdin(), &mut space)?;
+    run_cases(&mut rt.stdout(), &space[..n])
 }

@@ -7,7 +7,11 @@ ghost use Rattle.verdict.specs.Program.{verdict_of};
 
 use checker::verdict::Verdict;
 use layout::Layout;
-use libc::{STDIN_FILENO, STDOUT_FILENO};
+use std::io;
+use std::io::Write;
+
+// The longest module, in bytes.
+const LONGEST_MODULE: usize = 65536;
 
 // more is how many bytes the try for one more found.
 fn judge(image: &[u8], more: usize) -> Verdict
@@ -29,31 +33,29 @@ fn judge(image: &[u8], more: usize) -> Verdict
     checker::check::check(layout, 196608, image)
 }
 
-fn print_place(place: u32) {
+fn print_place(out: &mut impl Write, place: u32) -> io::Result<()> {
     if place == checker::verdict::NO_PLACE {
-        io::write_all(STDOUT_FILENO, b"-");
-        return;
+        return write!(out, "-");
     }
-    io::print_decimal(STDOUT_FILENO, place as u64);
+    write!(out, "{place}")
 }
 
-fn print(v: Verdict, words: usize) {
+fn print(out: &mut impl Write, v: Verdict, words: usize) -> io::Result<()> {
     if v.number == 0 {
-        io::write_all(STDOUT_FILENO, b"accept ");
-        io::print_decimal(STDOUT_FILENO, words as u64);
+        write!(out, "accept {words}")?;
     } else {
-        io::write_all(STDOUT_FILENO, b"refuse ");
-        io::print_decimal(STDOUT_FILENO, v.number as u64);
-        io::write_all(STDOUT_FILENO, b" ");
-        print_place(v.place);
+        let number = v.number;
+        write!(out, "refuse {number} ")?;
+        print_place(out, v.place)?;
     }
-    io::write_all(STDOUT_FILENO, b"\n");
+    writeln!(out)
 }
 
-fn main() {
-    let mut space = io::large_buffer();
-    let n = io::read_full(STDIN_FILENO, &mut space);
+fn main(rt: HostRuntime) -> io::Result<()> {
+    let mut input = rt.stdin();
+    let mut space = [0u8; LONGEST_MODULE];
+    let n = input::read_full(&mut input, &mut space)?;
     let mut one = [0u8; 1];
-    let more = io::read_full(STDIN_FILENO, &mut one);
-    print(judge(&space[..n], more), n / 4);
+    let more = input::read_full(&mut input, &mut one)?;
+    print(&mut rt.stdout(), judge(&space[..n], more), n / 4)
 }
