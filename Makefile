@@ -1,5 +1,5 @@
 # make: proves and builds everything that people use, and prints the verdict on the sample module.
-# make test: the test command: formatting, proofs, must-fail edits, programs, and then each of the tests below.
+# make test: the test command: rt ci, which has layout, proofs, must-fail edits and programs, and then each of the tests below.
 # make archive: the calls for C, as a library to link with.
 # make command: the command cc100.
 # make install: the header, the library, the programs and the manual pages (PREFIX=/usr/local, DESTDIR=). make uninstall: takes them away.
@@ -22,9 +22,9 @@ ARCHIVE = target/libcc100.a
 VERDICT = target/bin/verdict
 # The calls, behind cc100_.
 EXPORTED = check check_placed check_straight run step resume read write
-# Each of these is compiled by itself, so that what two calls share is inlined into both, and begins a page, so that its speed does not hang
-# on where a host's linker puts it.
-CALLS = cc100_instruction cc100_step cc100_run cc100_resume cc100_check cc100_check_placed cc100_check_straight
+# The libraries for C that they are in. Each is compiled by itself, so that what two calls share is inlined into both, and begins a page, so that
+# its speed does not hang on where a host's linker puts it.
+CALLS = cc100_instruction_c cc100_step_c cc100_run cc100_resume cc100_check cc100_check_placed cc100_check_straight
 PAGE = 4096
 PLAIN = bench/plain_read.c bench/plain_step.c bench/plain_check.c
 TIMED = bench/timing.c $(PLAIN)
@@ -40,9 +40,6 @@ STORED = vectors steps listing verdict
 # What is compiled here, without make.sh's qemu.c, which needs Unicorn.
 PROGRAM = $(addprefix tests/program/,run.c tables.c words.c compare.c figures.c)
 ROUNDS = 1
-# The toolchain proves crates and tries edits in batches: with one more at a time than there are processors, none waits for the last of a batch.
-# It takes up to 1 GB each, and so 4 at most.
-export RT_JOBS ?= $(shell n=$$(nproc) && echo $$((n < 4 ? n + 1 : 4)))
 
 # The command, and the same for its tests, which stops at the first thing that C leaves undefined.
 COMMAND = $(wildcard command/*.c)
@@ -55,34 +52,31 @@ INTO = $(DESTDIR)$(PREFIX)
 FILLED = sed -e 's|@PREFIX@|$(PREFIX)|' -e 's|@VERSION@|$(VERSION)|'
 
 TESTS = host-test command-test install-test samples-test expected-test mips-test program-test harness
-.PHONY: sample test bench archive command install uninstall expected $(TESTS)
+.PHONY: sample test bench archive programs command install uninstall expected $(TESTS)
 
 sample: command $(VERDICT)
 	@$(VERDICT) < samples/m.module
 
 # The tests in C link what has just been proved. They stand after it, and the toolchain's own last line is then said once more.
 test:
-	rt fmt --check
-	@log=$$(mktemp) && trap "rm -f $$log" EXIT && tools/progress $$log rt ci && $(MAKE) --no-print-directory $(TESTS) && tail -n 1 $$log
+	@tools/gate $(TESTS)
 
-# An object is made anew where its crate, or one below it, was proved anew: the toolchain's stamp says which.
 archive:
-	@mkdir -p target/archive
-	@tools/progress target/archive/check.log rt check $(CALLS) verdict listing
-	@n=0; for c in $(CALLS); do \
-	    n=$$((n + 1)); cmp -s target/stamp/$$c target/archive/$$c.stamp && continue; \
-	    echo "compiling $$c ($$n of $(words $(CALLS)))"; \
-	    rt staticlib $$c > target/archive/$$c.log 2>&1 || { cat target/archive/$$c.log; exit 1; }; \
-	    (cd target/archive && ar x ../staticlib/lib$$c.a && objcopy --set-section-alignment '.text.*=$(PAGE)' $$c.o) && \
-	    cp target/stamp/$$c target/archive/$$c.stamp || exit 1; \
+	@tools/build $(CALLS)
+	@rm -rf target/archive && mkdir -p target/archive
+	@cd target/archive && for c in $(CALLS); do \
+	    ar x ../lib/lib$$c.a && objcopy --set-section-alignment '.text.*=$(PAGE)' $$c.o || exit 1; \
 	done
 	@rm -f target/libcc100.a && ar rcs target/libcc100.a $(patsubst %,target/archive/%.o,$(CALLS))
 
 # Made anew where anything that it is made from changed; another archive (ARCHIVE=FILE) is taken as it is.
 target/libcc100.a: archive
 
-# The program is built with the archive; another one (VERDICT=FILE) is taken as it is.
-target/bin/verdict: archive
+programs:
+	@tools/build verdict listing
+
+# Made anew in the same way; another program (VERDICT=FILE) is taken as it is.
+target/bin/verdict: programs
 
 command: $(ARCHIVE)
 	@mkdir -p target/bin
@@ -139,7 +133,7 @@ expected-test: target/tests/expected
 	@echo "expected outputs: $(words $(STORED)) programs agree"
 
 mips-test:
-	@rt check steps > target/mips.log 2>&1 || { cat target/mips.log; exit 1; }
+	@tools/build steps
 	@python3 tests/mips/cases.py target/bin/steps
 
 program-test: $(ARCHIVE)
