@@ -1,7 +1,6 @@
 use native.Mathlib.Omega.{arith}
 use Rattle.isa.proofs.Codes.{numbers}
 use Rattle.isa.proofs.Members.{apart}
-use Rattle.number.specs.Number.{kind_of}
 use Rattle.number.proofs.Numbers.{unknown}
 use Rattle.number.proofs.kind_of.Goals as goal
 

@@ -1,3 +1,4 @@
+use Rattle.std.proofs.Common.{arith}
 use borrow.Author.Tests.{ne_eqb}
 use Rattle.system.specs.System.{control_of}
 use Rattle.system.proofs.control.Goals as goal
@@ -16,4 +17,4 @@ returns-in-13 c = rw c.in-13.is
 
 pub returns-in_default : goal.returns-in_default
 unfolding control_of
-returns-in_default c = rw (ne_eqb _ _ c.in_default.in_default-own.rest.0.0.1, ne_eqb _ _ c.in_default.in_default-own.rest.0.1, ne_eqb _ _ c.in_default.in_default-own.rest.1)
+returns-in_default c = rw (ne_eqb c.args.d 8 (omega arith), ne_eqb c.args.d 12 (omega arith), ne_eqb c.args.d 13 (omega arith))

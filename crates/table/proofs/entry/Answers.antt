@@ -1,4 +1,4 @@
-use Rattle.std.proofs.Common.{ap, ◌∙◌}
+use Rattle.std.proofs.Common.{ap, ◌∙◌, arith}
 use Rattle.table.specs.Tables.{entry_of}
 use Rattle.table.proofs.Reading.{to_function, to_condition, to_control, to_none}
 use Rattle.table.proofs.entry.Goals as goal
@@ -14,5 +14,4 @@ returns-in-102 c = to_control c.cut-f.result c.by_opcode-e.ensures c.in-102.is c
 
 pub returns-in_default : goal.returns-in_default
 returns-in_default c =
-    let r = c.in_default.in_default-own.rest in
-    to_none c.cut-f.result c.by_opcode-e.ensures r.0.0.1 r.0.1 r.1 ∙ ap entry_of c.cut-f.ensures.0
+    to_none c.cut-f.result c.by_opcode-e.ensures (omega arith) (omega arith) (omega arith) ∙ ap entry_of c.cut-f.ensures.0

@@ -1,6 +1,5 @@
 use Rattle.std.proofs.Common.{arith}
 use lib.Bits.{mask_lt}
-use Rattle.word.proofs.Numbers.{extend_clear, extend_set}
 use Rattle.word.proofs.number.extend8.Goals as goal
 
 pub overflow_add-result : goal.overflow_add-result
