@@ -52,6 +52,8 @@ INTO = $(DESTDIR)$(PREFIX)
 FILLED = sed -e 's|@PREFIX@|$(PREFIX)|' -e 's|@VERSION@|$(VERSION)|'
 
 TESTS = host-test command-test install-test samples-test expected-test mips-test program-test harness
+# Two builds side by side would write to the same folders.
+.NOTPARALLEL:
 .PHONY: sample test bench archive programs command install uninstall expected $(TESTS)
 
 sample: command $(VERDICT)
