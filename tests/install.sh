@@ -46,7 +46,7 @@ placed() {
     expect 'the version of cc100' "cc100 $version" "$("$room/usr/bin/cc100" --version)"
     expect 'cc100' 'accept 8' "$("$room/usr/bin/cc100" check samples/m.module)"
     expect 'verdict' 'accept 8' "$("$room/usr/bin/verdict" < samples/m.module)"
-    expect 'the release in CHANGELOG.md' "## $version" "$(grep -m 1 -o '^## [0-9.]*' CHANGELOG.md)"
+    expect 'the release in CHANGELOG.md' "## $version" "$(grep -m 1 -o '^## [0-9][0-9.]*' CHANGELOG.md)"
 }
 
 compiled() {

@@ -5,7 +5,7 @@ use Rattle.isa.specs.declared.kind.Access.{Access}
 use Rattle.isa.specs.declared.kind.Access.TheVariants.{Lb, Lbu, Sb, Lh, Lhu, Sh, Lw, Sw, Ll, Sc}
 use Rattle.effect.specs.declared.effect.Effect.{Effect}
 use Rattle.effect.specs.declared.effect.Effect.TheVariants.{Exit, Write, LoadByte, LoadHalf, LoadWord, LoadLinked, StoreByte, StoreHalf, StoreWord, StoreLinked}
-use Rattle.effect.specs.Exit.{load_exit, store_exit}
+use Rattle.effect.specs.declared.exit.Exit.TheVariants as E
 
 -- the effective address: the signed offset is added to the base
 unfoldable pub address_of : ℕ → ℕ → ℕ
@@ -16,10 +16,10 @@ unfoldable pub reaches : ℕ → ℕ → ℕ → Bool
 reaches w address n = eqb (address % w) 0 && leb (address + w) n
 
 unfoldable pub load_if : Bool → Effect → Effect
-load_if t e = cond t e (Exit load_exit)
+load_if t e = cond t e (Exit E.Load)
 
 unfoldable pub store_if : Bool → Effect → Effect
-store_if t e = cond t e (Exit store_exit)
+store_if t e = cond t e (Exit E.Store)
 
 -- SC looks at the LL bit and never at the address that LL used (document 01, Machine)
 unfoldable pub conditional : Bool → ℕ → ℕ → ℕ → Effect

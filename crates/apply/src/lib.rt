@@ -1,24 +1,26 @@
-// An effect carried out on lent registers and memory; the other registers go by value. The last access is kept in two words.
+// An effect carried out on lent registers and memory; the other registers go by value.
 #![tactic(auto)]
 
 ghost use Rattle.std.specs.Prelude.{◌≡◌, length};
 ghost use Rattle.effect.specs.Sound.{Performable};
-ghost use Rattle.effect.specs.Touched.{touched_of, last_of, Keeps};
+ghost use Rattle.effect.specs.Touched.{touched_of, last_of};
 ghost use Rattle.parts.specs.Parts.{parts};
 ghost use Rattle.apply.specs.Apply.{applied_of};
 
 use effect::effect::{Effect, Special, Touched};
 use parts::*;
+use word::bytes::load;
 
 pub fn apply(
     e: Effect,
     c: Special,
     registers: &mut [u32; 32],
     memory: &mut [u8],
-    last: &mut [u32; 2],
+    last: &mut Touched,
 ) -> Special
     requires { Performable e (length memory.old) }
-    ensures { (parts registers.new result memory.new ≡ applied_of e registers.old c memory.old) × ((t : Touched) → Keeps last.old t → Keeps last.new (last_of t (touched_of e))) }
+    ensures applied { parts registers.new result memory.new ≡ applied_of e registers.old c memory.old }
+    ensures access { last.new ≡ last_of last.old (touched_of e) }
 {
     match e {
         Effect::Exit(_) => c,
@@ -28,26 +30,36 @@ pub fn apply(
         Effect::Jump(target) => jump(c, target),
         Effect::Link(r, v, target) => link(registers, r, v, target, c),
         Effect::LoadByte(r, a, signed) => {
-            let d = touch(last, a, 2, c);
-            write(registers, r, byte(memory, a, signed), d)
+            *last = Touched::Load(a, 1);
+            write(registers, r, loaded::<1, 8>(memory, a, signed), c)
         }
         Effect::LoadHalf(r, a, signed) => {
-            let d = touch(last, a, 4, c);
-            write(registers, r, half(memory, a, signed), d)
+            *last = Touched::Load(a, 2);
+            write(registers, r, loaded::<2, 16>(memory, a, signed), c)
         }
         Effect::LoadWord(r, a) => {
-            let d = touch(last, a, 8, c);
-            write(registers, r, word_at(memory, a), d)
+            *last = Touched::Load(a, 4);
+            write(registers, r, load::<4>(memory, a as usize), c)
         }
         Effect::LoadLinked(r, a) => {
-            let d = touch(last, a, 8, c);
-            linked(write(registers, r, word_at(memory, a), d), true)
+            *last = Touched::Load(a, 4);
+            linked(write(registers, r, load::<4>(memory, a as usize), c), true)
         }
-        Effect::StoreByte(a, v) => store_byte(memory, a, v, touch(last, a, 3, c)),
-        Effect::StoreHalf(a, v) => store_half(memory, a, v, touch(last, a, 5, c)),
-        Effect::StoreWord(a, v) => store_word(memory, a, v, touch(last, a, 9, c)),
+        Effect::StoreByte(a, v) => {
+            *last = Touched::Store(a, 1);
+            store::<1>(memory, a, v, c)
+        }
+        Effect::StoreHalf(a, v) => {
+            *last = Touched::Store(a, 2);
+            store::<2>(memory, a, v, c)
+        }
+        Effect::StoreWord(a, v) => {
+            *last = Touched::Store(a, 4);
+            store::<4>(memory, a, v, c)
+        }
         Effect::StoreLinked(r, a, v) => {
-            store_linked(registers, memory, r, a, v, touch(last, a, 9, c))
+            *last = Touched::Store(a, 4);
+            store_linked(registers, memory, r, a, v, c)
         }
         Effect::Control(r, v) => controlled(advance(c), r, v),
         Effect::Return(status) => linked(with_status(advance(c), status), false),

@@ -1,5 +1,5 @@
 -- Document 004, sections 1.1.1 to 1.1.4: one clause for each instruction, beside its Operation in 1.2. a is GPR[rs], b is GPR[rt].
-use Rattle.std.specs.Prelude.{ℕ, ◌*◌, ◌-◌, ◌%◌, ◌/◌, ◌^◌, Bool, cond, eqb, ltb, ℤ, ◌+ℤ◌, ◌-ℤ◌, ◌*ℤ◌}
+use Rattle.std.specs.Prelude.{ℕ, ◌*◌, ◌-◌, ◌%◌, ◌/◌, ◌^◌, Bool, cond, eqb, ltb, Option, Some, None, ℤ, ◌+ℤ◌, ◌-ℤ◌, ◌*ℤ◌}
 use Rattle.std.specs.Int.Bits.{bit_and, bit_or, bit_xor}
 use Rattle.std.specs.Int.Signed.{lt_z, quot_z, rem_z, shr_z}
 use Rattle.word.specs.Number.{signed_of, fits_of, wrap_of, extend_of, sum_of, difference_of}
@@ -13,7 +13,7 @@ use Rattle.isa.specs.declared.kind.Multiply.{Multiply}
 use Rattle.isa.specs.declared.kind.Multiply.TheVariants.{Mult, Multu, Div, Divu, Mfhi, Mthi, Mflo, Mtlo}
 use Rattle.effect.specs.declared.effect.Effect.{Effect}
 use Rattle.effect.specs.declared.effect.Effect.TheVariants.{Exit, Advance, Write, Pair}
-use Rattle.effect.specs.Exit.{integer_overflow}
+use Rattle.effect.specs.declared.exit.Exit.TheVariants as E
 
 -- a test's answer in a register: 0^31 || 1, or 0^32
 unfoldable pub bit : Bool → ℕ
@@ -21,7 +21,12 @@ bit t = cond t 1 0
 
 -- register r gets the integer z, unless 32 bits do not hold it
 unfoldable pub checked : ℕ → ℤ → Effect
-checked r z = cond (fits_of 32 z) (Write r (wrap_of 32 z)) (Exit integer_overflow)
+checked r z = cond (fits_of 32 z) (Write r (wrap_of 32 z)) (Exit E.IntegerOverflow)
+
+-- register r gets the word, where there is one
+abbrev pub written : ℕ → Option ℕ → Effect
+written r (Some v) = Write r v
+written r None = Exit E.IntegerOverflow
 
 -- 1.1.1, 3-operand ALU; XOR has no exception (document 01, Machine)
 abbrev pub alu_of : Alu → ℕ → ℕ → ℕ → Effect

@@ -1,28 +1,23 @@
 -- Branches and jumps lead to multiples of four.
-use Prim.Native.Nat.{ℕ, ◌*◌, ◌-◌, ◌%◌, ◌^◌, ◌≤◌, ◌<◌}
+use Prim.Native.Nat.{ℕ, ◌*◌, ◌%◌, ◌^◌, ◌≤◌, ◌<◌}
 use mathlib.Core.Path.{◌≡◌}
 use mathlib.Core.Logic.{⊎_elim}
 use native.Mathlib.Omega.{arith}
-use lib.Bits.{bit_and}
 use Rattle.word.specs.Number.{extend_of}
-use Rattle.word.proofs.Bits.{mask_mod}
 use Rattle.word.proofs.Numbers.{extend_clear, extend_set}
-use Rattle.signed.proofs.Integers.{lt_or_ge}
+use Rattle.std.proofs.lemmas.Bool.{cases_lt}
 use Rattle.effect.specs.Sound.{Aligned}
 use Rattle.branch.specs.Branch.{slot_of, relative_of, region_of}
 
 -- a multiple of four of 18 bits stays one when it is extended
 extend_aligned : (x : ℕ) → extend_of 18 (x * 4) % 4 ≡ 0
-extend_aligned x = ⊎_elim low high (lt_or_ge (bit_and (x * 4) (2 ^ 18 - 1)) (2 ^ 17))
+extend_aligned x = ⊎_elim low high (cases_lt (x * 4 % 2 ^ 18) (2 ^ 17))
   where
-    same : bit_and (x * 4) (2 ^ 18 - 1) ≡ x * 4 % 2 ^ 18
-    same = mask_mod 18 (x * 4)
+    low : x * 4 % 2 ^ 18 < 2 ^ 17 → extend_of 18 (x * 4) % 4 ≡ 0
+    low h = rw (extend_clear 18 (x * 4) (omega arith) h) (omega arith)
 
-    low : bit_and (x * 4) (2 ^ 18 - 1) < 2 ^ 17 → extend_of 18 (x * 4) % 4 ≡ 0
-    low h = rw (← extend_clear 18 (x * 4) (omega arith) h, same) (omega arith)
-
-    high : 2 ^ 17 ≤ bit_and (x * 4) (2 ^ 18 - 1) → extend_of 18 (x * 4) % 4 ≡ 0
-    high h = rw (← extend_set 18 (x * 4) (omega arith) h, same) (omega arith)
+    high : 2 ^ 17 ≤ x * 4 % 2 ^ 18 → extend_of 18 (x * 4) % 4 ≡ 0
+    high h = rw (extend_set 18 (x * 4) (omega arith) h) (omega arith)
 
 pub slot_aligned : {pc : ℕ} → Aligned pc → Aligned (slot_of pc)
 unfolding slot_of

@@ -6,7 +6,7 @@ use Rattle.isa.specs.declared.kind.Branch.{Branch}
 use Rattle.isa.specs.declared.kind.Branch.TheVariants.{J, Jal, Jr, Jalr, Beq, Bne, Blez, Bgtz, Bltz, Bgez, Bltzal, Bgezal}
 use Rattle.effect.specs.declared.effect.Effect.{Effect}
 use Rattle.effect.specs.declared.effect.Effect.TheVariants.{Exit, Advance, Jump, Link}
-use Rattle.effect.specs.Exit.{address_exit}
+use Rattle.effect.specs.declared.exit.Exit.TheVariants as E
 
 -- four more: the delay slot of the instruction at pc, also where that one stands in a slot itself (document 01, Machine)
 unfoldable pub slot_of : ℕ → ℕ
@@ -33,7 +33,7 @@ link_if t pc next offset = Link 31 (link_of pc) (cond t (relative_of pc offset) 
 
 -- a jump to an address that is not word-aligned exits
 unfoldable pub jump_if : ℕ → Effect → Effect
-jump_if target e = cond (eqb (target % 4) 0) e (Exit address_exit)
+jump_if target e = cond (eqb (target % 4) 0) e (Exit E.Address)
 
 abbrev pub branch_of : Branch → ℕ → ℕ → ℕ → ℕ → ℕ → ℕ → Effect
 branch_of J rd a b v pc next = Jump (region_of pc v)

@@ -1,70 +1,78 @@
 -- The theorems about step, run and resume on bytes: what a refused call leaves, and that the others do what the machine does.
-use Prim.Native.Nat.{ℕ, ◌/◌, ◌%◌, ◌<◌, ◌≤◌}
+use Prim.Native.Nat.{ℕ, ◌<◌, ◌≤◌}
 use mathlib.Core.Path.{◌≡◌, refl, sym, ap, ◌∙◌}
-use mathlib.Core.Bool.{Bool, true, false}
+use mathlib.Core.Bool.{Bool, true, false, cond}
 use mathlib.Core.List.{List}
 use mathlib.Core.Logic.{⊎_elim}
 use native.Mathlib.Omega.{arith}
 use lib.Dec.{ltb}
 use lib.ListN.{length}
 use borrow.Author.Tests.{ne_eqb, lt-ltb, le-ltb}
+use Rattle.std.specs.Prelude.{Result, Ok, Err}
 use Rattle.word.proofs.Choice.{by_zero}
 use Rattle.machine.specs.declared.state.State.{State}
 use Rattle.word.specs.Bytes.{longest}
 use Rattle.machine.specs.State.{refusal_of, Bytes}
 use Rattle.effect.specs.declared.effect.Touched.{Touched}
 use Rattle.effect.specs.declared.effect.Touched.TheVariants.{Nothing}
-use Rattle.effect.specs.Touched.{cell, cell_of, InWords}
-use Rattle.effect.proofs.Touched.{held_cell}
+use Rattle.effect.specs.Touched.{cell_of}
+use Rattle.refusal.specs.declared.Refusal.{Refusal}
+use Rattle.refusal.specs.declared.Refusal.TheVariants as R
+use Rattle.refusal.specs.Refusal.{number_of}
+use Rattle.refusal.proofs.Numbers.{number_some}
 use Rattle.machine.specs.Step.{Outcome, stepped, outcome, step_of}
 use Rattle.machine.specs.Run.{course, run_of}
 use Rattle.machine.specs.Resume.{resume_of}
-use Rattle.machine.proofs.Steps.{step_refused, exit_leaves}
+use Rattle.machine.proofs.Steps.{too_long, step_refused, exit_leaves}
 use Rattle.machine.proofs.Touches.{touched_exits}
 use Rattle.machine.proofs.Runs.{run_refused, run_numbers}
 use Rattle.machine.proofs.Resumes.{resume_refused, resume_leaves}
-use Rattle.codec.specs.declared.decode.Decoded.{Decoded}
-use Rattle.codec.specs.Bytes.{is_state, state_of, bytes_of, decoded, decoded_of, encoded, encoded_of}
+use Rattle.codec.specs.Bytes.{is_state, state_of, bytes_of, decoded_of, encoded, encoded_of}
 use Rattle.codec.proofs.RoundTrip.{state_length, state_typed, bytes_state}
-use Rattle.cc100.specs.Calls.{call_refusal, read_state_of, Answer, step_answer, answer, answered, call_of, step_call, resume_call, RunAnswer, run_answer, run_answered, run_call}
+use Rattle.cc100.specs.Calls.{call_refusal, Answer, step_answer, answer, answered, call_of, step_says, step_call, resume_call, RunAnswer, run_answer, run_answered, run_says, run_call}
 
 -- ---- what the calls read, by what the code finds
 
 module _ (b : List ℕ) where
-  state_by : (t : Bool) → is_state b ≡ t → (decoded_of b).number ≡ 0 → is_state b ≡ true
+  abbrev Decoded : Type 0
+  Decoded = Result State Refusal
+
+  ok_by : (t : Bool) → is_state b ≡ t → (s : State) → decoded_of b ≡ Ok s → (is_state b ≡ true) × (s ≡ state_of b)
   unfolding decoded_of
-  state_by true e z = e
-  state_by false e z = let y = rw e at z in let x : ⊥ = omega (arith, y) in absurd x
+  ok_by true q s h = let k : ◌≡◌ {A = Decoded} (Ok (state_of b)) (Ok s) = rw q at h in (q, cc)
+  ok_by false q s h = let k : ◌≡◌ {A = Decoded} (Err R.State) (Ok s) = rw q at h in absurd (cc)
 
-  no_state_by : (t : Bool) → is_state b ≡ t → ((decoded_of b).number ≡ 0 → ⊥) → is_state b ≡ false
+  err_by : (t : Bool) → is_state b ≡ t → (e : Refusal) → decoded_of b ≡ Err e → (is_state b ≡ false) × (e ≡ R.State)
   unfolding decoded_of
-  no_state_by true e n = absurd (n (rw e))
-  no_state_by false e n = e
+  err_by true q e h = let k : ◌≡◌ {A = Decoded} (Ok (state_of b)) (Err e) = rw q at h in absurd (cc)
+  err_by false q e h = let k : ◌≡◌ {A = Decoded} (Err R.State) (Err e) = rw q at h in (q, cc)
 
-  decoded_state : is_state b ≡ true → (decoded_of b).state ≡ state_of b
-  unfolding decoded_of
-  decoded_state e = rw e
+  module _ (n : ℕ) where
+    too_long_by : (t : Bool) → longest < n → cond t (refusal_of (state_of b) n) (cond (ltb longest n) 1 17) ≡ 1
+    too_long_by true h = sym (too_long (state_of b) n h)
+    too_long_by false h = rw (lt-ltb longest n h)
 
-module _ (b : List ℕ) (n : ℕ) (d : Decoded) (given : d ≡ decoded_of b) where
-  read_as : (k : ℕ) → k ≡ call_refusal b n → decoded k d.state ≡ read_state_of b n
-  read_as k e = rw (e, given)
+    pub reads_too_long : longest < n → call_refusal b n ≡ 1
+    unfolding call_refusal
+    reads_too_long h = too_long_by (is_state b) h
 
-  not_state : (d.number ≡ 0 → ⊥) → is_state b ≡ false
-  not_state e = no_state_by b (is_state b) refl (rw given at e)
+    pub reads_no_state : n ≤ longest → (e : Refusal) → decoded_of b ≡ Err e → call_refusal b n ≡ number_of e
+    unfolding call_refusal
+    reads_no_state h e d =
+        let (q, k) = err_by (is_state b) refl e d in
+        rw (q, k, le-ltb longest n h)
 
-  pub read_state : d.number ≡ 0 → (k : ℕ) → k ≡ refusal_of d.state n → decoded k d.state ≡ read_state_of b n
-  unfolding call_refusal
-  read_state z k e =
-      let t : is_state b ≡ true = state_by b (is_state b) refl (rw given at z) in
-      read_as k (rw (e, given, decoded_state b t, t))
+    pub reads_refused : (s : State) → decoded_of b ≡ Ok s → (e : Refusal) → number_of e ≡ refusal_of s n → call_refusal b n ≡ number_of e
+    unfolding call_refusal
+    reads_refused s d e k =
+        let (q, l) = ok_by (is_state b) refl s d in
+        rw (q, k, l)
 
-  pub read_too_long : (d.number ≡ 0 → ⊥) → longest < n → decoded 1 d.state ≡ read_state_of b n
-  unfolding call_refusal
-  read_too_long e h = read_as 1 (rw (not_state e, lt-ltb longest n h))
-
-  pub read_no_state : (d.number ≡ 0 → ⊥) → n ≤ longest → d ≡ read_state_of b n
-  unfolding call_refusal decoded_of
-  read_no_state e h = read_as d.number (rw (given, not_state e, le-ltb longest n h))
+    pub reads_state : (s : State) → decoded_of b ≡ Ok s → 0 ≡ refusal_of s n → (call_refusal b n ≡ 0) × (s ≡ state_of b)
+    unfolding call_refusal
+    reads_state s d k =
+        let (q, l) = ok_by (is_state b) refl s d in
+        (rw (q, ← l, ← k), l)
 
 -- a call that is not refused is lent the bytes of a state
 served_by : (b : List ℕ) (n : ℕ) (t u : Bool) → is_state b ≡ t → ltb longest n ≡ u → call_refusal b n ≡ 0 → is_state b ≡ true
@@ -80,62 +88,65 @@ call_state b n z = served_by b n (is_state b) (ltb longest n) refl refl z
 abbrev Leaving : State → List ℕ → Outcome → Type 0
 Leaving s m o = (o.number ≡ 0 → ⊥) → o.machine ≡ record { state = s; memory = m }
 
--- what encode leaves of a state's bytes
-encode_bytes : (s : State) (b x : List ℕ) (k : ℕ) → is_state b ≡ true → encoded k x ≡ encoded_of s b → x ≡ bytes_of s
+-- what encode answers and leaves of a state's bytes
+encode_bytes : (s : State) (b x : List ℕ) (k : ℕ) → is_state b ≡ true → encoded k x ≡ encoded_of s b → (k ≡ 0) × (x ≡ bytes_of s)
 unfolding encoded_of
-encode_bytes s b x k e h = ap (λ o. o.bytes) h ∙ rw (state_length b e)
+encode_bytes s b x k e h =
+    let l : length b ≡ 164 = state_length b e in
+    (ap (λ o. o.number) h ∙ rw l, ap (λ o. o.bytes) h ∙ rw l)
 
--- ---- the calls, by what the code finds; f is what the machine does, step or resume
+-- ---- the calls, by what the code finds
 
-module _ (b m : List ℕ) (r : Decoded) (given : r ≡ read_state_of b (length m)) where
-  number : r.number ≡ call_refusal b (length m)
-  number = ap (λ x. x.number) given
-
-  pub call_refused : (r.number ≡ 0 → ⊥) → (o : Outcome) → answer r.number b m ≡ call_of b m o
+module _ (b m : List ℕ) where
+  pub call_refused : (e : Refusal) → call_refusal b (length m) ≡ number_of e → (o : Outcome) → answer (number_of e) b m ≡ call_of b m o
   unfolding call_of
-  call_refused n o = rw (← number, ne_eqb r.number 0 n)
+  call_refused e k o = rw (k, ne_eqb (number_of e) 0 (number_some e))
 
-  pub run_call_refused : (r.number ≡ 0 → ⊥) → (budget : ℕ) → run_answer r.number 0 (cell_of Nothing) b m ≡ run_call b m budget
+  pub step_refused_call : (e : Refusal) → call_refusal b (length m) ≡ number_of e → step_says (Err e) b m ≡ step_call b m
+  step_refused_call e k = call_refused e k (step_of (state_of b) m)
+
+  pub resume_refused_call : (e : Refusal) → call_refusal b (length m) ≡ number_of e → answer (number_of e) b m ≡ resume_call b m
+  resume_refused_call e k = call_refused e k (resume_of (state_of b) m)
+
+  pub run_refused_call : (budget : ℕ) (e : Refusal) → call_refusal b (length m) ≡ number_of e → run_says (Err e) b m ≡ run_call b m budget
   unfolding run_call
-  run_call_refused n budget = rw (← number, ne_eqb r.number 0 n)
+  run_refused_call budget e k = rw (k, ne_eqb (number_of e) 0 (number_some e))
 
-  module _ (z : r.number ≡ 0) where
-    served : call_refusal b (length m) ≡ 0
-    served = sym number ∙ z
-
+  module _ (s : State) (read : (call_refusal b (length m) ≡ 0) × (s ≡ state_of b)) where
     whole : is_state b ≡ true
-    whole = call_state b (length m) served
+    whole = call_state b (length m) read.0
 
-    lent : r.state ≡ state_of b
-    lent = ap (λ x. x.state) given ∙ decoded_state b whole
-
-    pub machine_serves : refusal_of r.state (length m) ≡ 0
+    pub machine_serves : refusal_of s (length m) ≡ 0
     unfolding call_refusal
-    machine_serves = let h = served in rw lent (rw whole at h)
+    machine_serves = let h = read.0 in rw read.1 (rw whole at h)
 
-    -- the state is not written where the machine leaves it
-    pub call_left : Bytes b → (f : State → Outcome) → ((s : State) → Leaving s m (f s)) → (k : ℕ) (t : State) → outcome k t m ≡ f r.state → (k ≡ 0 → ⊥) → answer k b m ≡ call_of b m (f (state_of b))
+    -- a state's bytes are always long enough
+    pub encodes : {P : Type 0} (t : State) (x : List ℕ) (e : Refusal) → encoded (number_of e) x ≡ encoded_of t b → P
+    encodes t x e h = absurd (number_some e (encode_bytes t b x (number_of e) whole h).0)
+
+    -- the bytes stand for the state as it was
+    same : Bytes b → bytes_of s ≡ b
+    same g = rw read.1 (bytes_state b g whole)
+
+    pub resume_left : Bytes b → (e : Refusal) → outcome (number_of e) s m ≡ resume_of s m → answer (number_of e) b m ≡ resume_call b m
     unfolding call_of
-    call_left g f v k t h n =
-        let e : outcome k t m ≡ f (state_of b) = h ∙ rw lent in
-        let q : k ≡ (f (state_of b)).number = ap (λ x. x.number) e in
-        let l = v (state_of b) (λ y. n (q ∙ y)) in
-        rw (served, l, ← q, ← (ap (λ x. x.touched) e), bytes_state b g whole)
+    resume_left g e h = rw (read.0, ← read.1, ← h, same g)
 
     module _ (t : State) (x : List ℕ) (k : ℕ) (left : encoded k x ≡ encoded_of t b) where
       bytes : x ≡ bytes_of t
-      bytes = encode_bytes t b x k whole left
+      bytes = (encode_bytes t b x k whole left).1
 
-      pub call_done : (f : State → Outcome) (o : ℕ) (c : Touched) (y : List ℕ) → stepped o c t y ≡ f r.state → step_answer o (cell_of c) x y ≡ call_of b m (f (state_of b))
+      pub step_done_call : (o : ℕ) (u : Touched) (y : List ℕ) → stepped o u t y ≡ step_of s m → step_answer o (cell_of u) x y ≡ step_call b m
       unfolding call_of
-      call_done f o c y h = rw (served, bytes) (ap answered h ∙ rw lent)
+      step_done_call o u y h = rw (read.0, ← read.1, ← h, bytes)
 
-      pub step_call_done : (o a c : ℕ) (y : List ℕ) → InWords (λ u. stepped o u t y) a c (step_of r.state m) → step_answer o (cell a (c / 2) (c % 2)) x y ≡ step_call b m
-      step_call_done o a c y (u, (h, k)) = rw (held_cell a c u k) (call_done (λ s. step_of s m) o u y h)
-
-      pub run_call_done : (o n a c : ℕ) (y : List ℕ) (budget : ℕ) → InWords (λ u. course o n u t y) a c (run_of r.state m budget) → run_answer o n (cell a (c / 2) (c % 2)) x y ≡ run_call b m budget
+      pub run_done_call : (o n : ℕ) (u : Touched) (y : List ℕ) (budget : ℕ) → course o n u t y ≡ run_of s m budget → run_answer o n (cell_of u) x y ≡ run_call b m budget
       unfolding run_call
-      run_call_done o n a c y budget (u, (h, k)) = rw (held_cell a c u k, served, bytes) (ap run_answered h ∙ rw lent)
+      run_done_call o n u y budget h = rw (read.0, ← read.1, ← h, bytes)
+
+      pub resume_done_call : outcome 0 t m ≡ resume_of s m → answer k x m ≡ resume_call b m
+      unfolding call_of
+      resume_done_call h = rw (read.0, ← read.1, ← h, bytes, (encode_bytes t b x k whole left).0)
 
 -- ---- the calls do what the machine does, refused or not
 

@@ -1,22 +1,29 @@
 -- What cc100_step, cc100_run and cc100_resume answer and leave: what the machine does, on a state as bytes (document 01).
-use Rattle.std.specs.Prelude.{ℕ, cond, List, eqb, ltb, length}
+use Rattle.std.specs.Prelude.{ℕ, ◌≡◌, cond, List, eqb, ltb, length, Result, Ok, Err}
 use Rattle.word.specs.Bytes.{longest}
 use Rattle.effect.specs.declared.effect.Touched.TheVariants.{Nothing}
-use Rattle.effect.specs.Touched.{Cell, cell_of}
+use Rattle.effect.specs.declared.effect.Cell.{Cell}
+use Rattle.effect.specs.Exit.{exit_number}
+use Rattle.effect.specs.Touched.{cell, cell_of}
+use Rattle.refusal.specs.declared.Refusal.{Refusal}
+use Rattle.refusal.specs.Refusal.{number_of}
+use Rattle.machine.specs.declared.state.State.{State}
+use Rattle.machine.specs.declared.step.Stepped.{Stepped}
+use Rattle.machine.specs.declared.run.Ran.{Ran}
 use Rattle.machine.specs.State.{refusal_of}
 use Rattle.machine.specs.Step.{Outcome, step_of}
 use Rattle.machine.specs.Run.{Course, run_of}
 use Rattle.machine.specs.Resume.{resume_of}
-use Rattle.codec.specs.declared.decode.Decoded.{Decoded}
-use Rattle.codec.specs.Bytes.{is_state, state_of, bytes_of, decoded, decoded_of}
+use Rattle.codec.specs.Bytes.{is_state, state_of, bytes_of}
 
 -- the refusals that the three calls try first: 1, then 17 by its rules of bytes and of states; 0 where none is due
 unfoldable pub call_refusal : List ℕ → ℕ → ℕ
 call_refusal b n = cond (is_state b) (refusal_of (state_of b) n) (cond (ltb longest n) 1 17)
 
--- the refusal that is due, with the state that the bytes stand for; the blank state where they stand for none
-abbrev pub read_state_of : List ℕ → ℕ → Decoded
-read_state_of b n = decoded (call_refusal b n) (decoded_of b).state
+-- r is the refusal that is due, or the state that the bytes stand for
+abbrev pub Reads : List ℕ → ℕ → Result State Refusal → Type 0
+Reads b n (Ok s) = (call_refusal b n ≡ 0) × (s ≡ state_of b)
+Reads b n (Err e) = call_refusal b n ≡ number_of e
 
 -- ---- step and resume
 
@@ -47,6 +54,15 @@ step_call b m = call_of b m (step_of (state_of b) m)
 abbrev pub resume_call : List ℕ → List ℕ → Answer
 resume_call b m = call_of b m (resume_of (state_of b) m)
 
+-- what a step of a state says, with the bytes that are left
+abbrev pub step_says : Result Stepped Refusal → List ℕ → List ℕ → Answer
+step_says (Ok r) b m = step_answer (exit_number r.exit) (cell_of r.touched) b m
+step_says (Err e) b m = answer (number_of e) b m
+
+-- struct cc100_stepped of it
+abbrev pub IsStepped : Result Stepped Refusal → ℕ → ℕ → ℕ → ℕ → Type 0
+IsStepped r k a w d = (b m : List ℕ) → step_answer k (cell a w d) b m ≡ step_says r b m
+
 -- ---- run
 
 -- the same with the steps completed, and the last access among them
@@ -70,3 +86,12 @@ run_call b m budget =
     cond (eqb (call_refusal b (length m)) 0)
     (run_answered (run_of (state_of b) m budget))
     (run_answer (call_refusal b (length m)) 0 (cell_of Nothing) b m)
+
+-- what a run of a state says, with the bytes that are left
+abbrev pub run_says : Result Ran Refusal → List ℕ → List ℕ → RunAnswer
+run_says (Ok r) b m = run_answer (exit_number r.exit) r.steps (cell_of r.touched) b m
+run_says (Err e) b m = run_answer (number_of e) 0 (cell_of Nothing) b m
+
+-- struct cc100_ran of it
+abbrev pub IsRan : Result Ran Refusal → ℕ → ℕ → ℕ → ℕ → ℕ → Type 0
+IsRan r k n a w d = (b m : List ℕ) → run_answer k n (cell a w d) b m ≡ run_says r b m

@@ -1,28 +1,20 @@
 // What step, run and resume on a state as bytes share: the refusals that they try first.
 #![tactic(auto)]
 
-ghost use Rattle.std.specs.Prelude.{◌≡◌};
-ghost use Rattle.cc100.specs.Calls.{read_state_of};
+ghost use Rattle.cc100.specs.Calls.{Reads};
 
-use codec::decode::Decoded;
+use machine::state::State;
+use refusal::Refusal;
 
-// The refusal that is due, memory's before the state's, or 0 and the state that the bytes stand for.
-pub fn read_state(bytes: &[u8], length: usize) -> Decoded
-    ensures { result ≡ read_state_of bytes.now length }
+// The state that the bytes stand for, or the refusal that is due, memory's before the state's.
+#[tactic(auto, using(crate::proofs::Calls::reads_too_long, crate::proofs::Calls::reads_no_state, crate::proofs::Calls::reads_refused, crate::proofs::Calls::reads_state), unfolding(codec::specs::Bytes::decoded_of))]
+pub fn read_state(bytes: &[u8], length: usize) -> Result<State, Refusal>
+    ensures { Reads bytes.now length result }
 {
-    let d = codec::decode::decode(bytes);
-    let s = d.state;
-    if d.number == 0 {
-        return Decoded {
-            number: s.refusal(length),
-            state: s,
-        };
-    }
     if word::bytes::LONGEST < length {
-        return Decoded {
-            number: word::bytes::TOO_LONG,
-            state: s,
-        };
+        return Err(Refusal::MemoryTooLong);
     }
-    d
+    let s = codec::decode::decode(bytes)?;
+    s.refusal(length)?;
+    Ok(s)
 }

@@ -24,5 +24,5 @@ pub extern "C" fn cc100_check(
         data_base,
         data_size,
     };
-    checker::check::check(layout, memory_length, image)
+    Verdict::from(checker::check::check(layout, memory_length, image))
 }

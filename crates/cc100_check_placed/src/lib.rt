@@ -23,5 +23,5 @@ pub extern "C" fn cc100_check_placed(
         data_base,
         data_size,
     };
-    checker::check::check_placed(layout, memory)
+    Verdict::from(checker::check::check_placed(layout, memory))
 }

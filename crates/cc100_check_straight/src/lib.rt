@@ -24,5 +24,5 @@ pub extern "C" fn cc100_check_straight(
         data_base,
         data_size,
     };
-    straight::check::check_straight(layout, memory_length, image)
+    Verdict::from(straight::check::check_straight(layout, memory_length, image))
 }

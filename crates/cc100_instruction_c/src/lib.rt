@@ -3,7 +3,7 @@
 
 ghost use Rattle.std.specs.Prelude.{◌≡◌};
 ghost use Rattle.isa.specs.Reading.{read_of};
-ghost use Rattle.number.specs.Number.{kind_of};
+ghost use Rattle.isa.specs.Number.{kind_of};
 ghost use Rattle.cc100_instruction.specs.Instruction.{read_answer, write_numbered};
 
 use cc100_instruction::{ReadAnswer, WriteAnswer};

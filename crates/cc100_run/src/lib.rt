@@ -5,6 +5,10 @@ ghost use Rattle.std.specs.Prelude.{◌≡◌};
 ghost use Rattle.effect.specs.Touched.{cell};
 ghost use Rattle.cc100.specs.Calls as Spec;
 
+use effect::effect::{Cell, Touched};
+use machine::run::Ran;
+use refusal::Refusal;
+
 // struct cc100_ran; number 0: still running; width 0: no access.
 #[repr(C)]
 #[derive(Clone, Copy)]
@@ -16,29 +20,39 @@ pub struct RanAnswer {
     pub store: u32,
 }
 
+impl From<Result<Ran, Refusal>> for RanAnswer {
+    ghost use Rattle.cc100.specs.Calls.{IsRan};
+
+    ghost from_gives = { λ r a. IsRan r a.number a.steps a.address a.width a.store };
+
+    fn from(r: Result<Ran, Refusal>) -> RanAnswer {
+        let (number, steps, touched) = match r {
+            Ok(s) => (effect::exit::number(s.exit), s.steps, s.touched),
+            Err(e) => (u32::from(e), 0, Touched::Nothing),
+        };
+        let cell = Cell::from(touched);
+        RanAnswer {
+            number,
+            steps,
+            address: cell.address,
+            width: cell.width,
+            store: cell.store,
+        }
+    }
+}
+
+fn ran(state: &mut [u8], memory: &mut [u8], budget: u32) -> Result<Ran, Refusal>
+    ensures { Spec.run_says result state.new memory.new ≡ Spec.run_call state.old memory.old budget }
+{
+    let s = cc100::read_state(state, memory.len())?;
+    let r = s.run_unrefused(memory, budget);
+    codec::encode::encode(r.state, state)?;
+    Ok(r)
+}
+
 #[unsafe(no_mangle)]
 pub extern "C" fn cc100_run(state: &mut [u8], memory: &mut [u8], budget: u32) -> RanAnswer
     ensures { Spec.run_answer result.number result.steps (cell result.address result.width result.store) state.new memory.new ≡ Spec.run_call state.old memory.old budget }
 {
-    let read = cc100::read_state(state, memory.len());
-    if read.number != 0 {
-        return RanAnswer {
-            number: read.number,
-            steps: 0,
-            address: 0,
-            width: 0,
-            store: 0,
-        };
-    }
-    let s = read.state;
-    let r = s.run_words(memory, budget);
-    let reached = r.state;
-    codec::encode::encode(reached, state);
-    RanAnswer {
-        number: r.number,
-        steps: r.steps,
-        address: r.address,
-        width: r.code / 2,
-        store: r.code % 2,
-    }
+    RanAnswer::from(ran(state, memory, budget))
 }

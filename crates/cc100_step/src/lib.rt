@@ -5,6 +5,10 @@ ghost use Rattle.std.specs.Prelude.{◌≡◌};
 ghost use Rattle.effect.specs.Touched.{cell};
 ghost use Rattle.cc100.specs.Calls as Spec;
 
+use effect::effect::{Cell, Touched};
+use machine::step::Stepped;
+use refusal::Refusal;
+
 // struct cc100_stepped; width 0: no access.
 #[repr(C)]
 #[derive(Clone, Copy)]
@@ -15,26 +19,37 @@ pub struct SteppedAnswer {
     pub store: u32,
 }
 
+impl From<Result<Stepped, Refusal>> for SteppedAnswer {
+    ghost use Rattle.cc100.specs.Calls.{IsStepped};
+
+    ghost from_gives = { λ r a. IsStepped r a.number a.address a.width a.store };
+
+    fn from(r: Result<Stepped, Refusal>) -> SteppedAnswer {
+        let (number, touched) = match r {
+            Ok(s) => (effect::exit::number(s.exit), s.touched),
+            Err(e) => (u32::from(e), Touched::Nothing),
+        };
+        let cell = Cell::from(touched);
+        SteppedAnswer {
+            number,
+            address: cell.address,
+            width: cell.width,
+            store: cell.store,
+        }
+    }
+}
+
+fn stepped(state: &mut [u8], memory: &mut [u8]) -> Result<Stepped, Refusal>
+    ensures { Spec.step_says result state.new memory.new ≡ Spec.step_call state.old memory.old }
+{
+    let s = cc100::read_state(state, memory.len())?;
+    let r = s.step_unrefused(memory);
+    codec::encode::encode(r.state, state)?;
+    Ok(r)
+}
+
 pub fn cc100_step(state: &mut [u8], memory: &mut [u8]) -> SteppedAnswer
     ensures { Spec.step_answer result.number (cell result.address result.width result.store) state.new memory.new ≡ Spec.step_call state.old memory.old }
 {
-    let read = cc100::read_state(state, memory.len());
-    if read.number != 0 {
-        return SteppedAnswer {
-            number: read.number,
-            address: 0,
-            width: 0,
-            store: 0,
-        };
-    }
-    let s = read.state;
-    let r = s.step_words(memory);
-    let after = r.state;
-    codec::encode::encode(after, state);
-    SteppedAnswer {
-        number: r.number,
-        address: r.address,
-        width: r.code / 2,
-        store: r.code % 2,
-    }
+    SteppedAnswer::from(stepped(state, memory))
 }

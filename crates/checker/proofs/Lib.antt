@@ -1,4 +1,5 @@
 pub mod Trials
+pub mod Numbers
 pub mod Scan
 pub mod Says
 pub mod Reflection

@@ -1,14 +1,14 @@
 -- Each test of the checker is the test of its rule.
-use Prim.Native.Nat.{ℕ, zero, suc, ◌+◌, ◌-◌, ◌*◌, ◌%◌, ◌^◌, ◌≤◌, ◌<◌}
+use Prim.Native.Nat.{ℕ, suc, ◌+◌, ◌-◌, ◌*◌, ◌%◌, ◌^◌, ◌≤◌, ◌<◌}
 use mathlib.Core.Path.{◌≡◌, refl, sym, subst, ap, ◌∙◌}
 use mathlib.Core.Bool.{Bool, true, false, not, cond, ◌&&◌, ◌||◌, false≢true}
 use mathlib.Core.List.{List}
 use native.Mathlib.Omega.{arith}
-use native.Mathlib.Decide.{dec_lt}
 use lib.Dec.{T, eqb, leb, ltb}
 use lib.IntN.{ℤ, pos, negsuc}
 use lib.ListN.{length}
-use lib.Pow.{pow_mono, pow-lt}
+use lib.Pow.{pow_mono}
+use Rattle.std.specs.Prelude.{Option, None}
 use Rattle.word.specs.Bytes.{longest, load_of}
 use Rattle.isa.specs.declared.kind.Alu.TheVariants.{Or}
 use Rattle.isa.specs.declared.kind.Immediate.TheVariants.{Andi}
@@ -19,7 +19,6 @@ use Rattle.isa.specs.declared.kind.Kind.TheVariants as K
 use Rattle.isa.specs.declared.kind.Instruction.{Instruction}
 use Rattle.class.specs.declared.Flow.{Flow}
 use Rattle.class.specs.declared.Flow.TheVariants.{Onward, Relative, Region, Register}
-use Rattle.isa.specs.declared.reading.Reading.{Reading}
 use Rattle.class.specs.Class.{class_of}
 use Rattle.isa.specs.Table.{instructions}
 use Rattle.isa.specs.Reading.{read_of}
@@ -27,9 +26,9 @@ use Rattle.isa.proofs.Codes.{key_of, every}
 use Rattle.isa.proofs.Same.{is, same_kind, same_test}
 use Rattle.layout.specs.declared.Layout.{Layout}
 use Rattle.layout.specs.Layout.{is_power, is_code_size, is_data_size, is_placed, is_apart}
-use Rattle.layout.proofs.Sizes.{Exponent, exponent_of}
+use Rattle.layout.proofs.Sizes.{Exponent, exponent_of, power_holds, at_least}
 use Rattle.view.specs.declared.View.{View}
-use Rattle.view.specs.View.{is_barred, is_relative, is_region, is_register, nothing, seen, view_of, word_view, is_branch, is_jump, needs_guard}
+use Rattle.view.specs.View.{is_barred, is_relative, is_region, is_register, seen, view_of, word_view, passes, is_branch, is_jump, needs_guard}
 use Rattle.view.specs.Guard as G
 use Rattle.view.specs.Guard.{is_mask, is_merge, value_in, is_mask_of, mask_in, is_merge_of}
 use Rattle.checker.specs.declared.verdict.Verdict.{Verdict}
@@ -43,27 +42,13 @@ use Rattle.checker.proofs.Says.{Says, holds, fails, Denies, keeps, eqs, les, lts
 
 -- ---- the layout
 
-at_least : (lo e : ℕ) → 2 ^ lo ≤ 2 ^ e → lo ≤ e
-at_least lo e q = elim (dec_lt e lo) [ yes g ↦ absurd (omega (arith, pow-lt g)) | no g ↦ omega arith ]
-
 module _ (n : ℕ) where
-  is_power_law : (lo k : ℕ) → Exponent lo k n → is_power lo k n ≡ true
-  is_power_law lo zero x = absurd (omega (arith, x.least, x.most))
-  is_power_law lo (suc k) x = found_at (eqs n (2 ^ lo)) (is_power_law (suc lo) k)
-    where
-      found_at : {a : Bool} → Says (n ≡ 2 ^ lo) a → (Exponent (suc lo) k n → is_power (suc lo) k n ≡ true)
-          → a || is_power (suc lo) k n ≡ true
-      found_at (holds e) f = refl
-      found_at (fails e) f =
-          let later : Not (x.exponent ≡ lo) = λ z. e (x.power ∙ ap (λ (k : ℕ). 2 ^ k) z) in
-          f (record { exponent = x.exponent; least = omega (arith, x.least); most = omega (arith, x.most); power = x.power })
-
   exponents : (lo k : ℕ) → Says (Exponent lo k n) (is_power lo k n)
   exponents lo k = go (is_power lo k n) refl
     where
       go : (b : Bool) → is_power lo k n ≡ b → Says (Exponent lo k n) b
       go true h = holds (exponent_of lo k n h)
-      go false h = fails (λ x. false≢true (sym h ∙ is_power_law lo k x))
+      go false h = fails (λ x. false≢true (sym h ∙ power_holds n lo k x))
 
   powers : (lo k : ℕ) → Says (L.Power (2 ^ lo) (2 ^ (lo + k)) n) (is_power lo (suc k) n)
   powers lo k =
@@ -181,37 +166,36 @@ module _ (x : Instruction) where
 -- ---- words
 
 -- what word i reads as
-abbrev pub reading_at : List ℕ → ℕ → Reading
+abbrev pub reading_at : List ℕ → ℕ → Option Instruction
 reading_at img i = read_of (load_of 4 img (4 * i))
 
-module _ (img : List ℕ) (i : ℕ) (P : Instruction → Type 0) (t : View → Bool) (z : t nothing ≡ false) where
-  pub every_word : ((x : Instruction) → Denies (P x) (t (seen x))) → Denies ((x : Instruction) → Stands img i x → P x) (t (C.view_at img i))
+module _ (img : List ℕ) (i : ℕ) (P : Instruction → Type 0) (t : View → Bool) where
+  pub every_word : ((x : Instruction) → Denies (P x) (t (seen x))) → Denies ((x : Instruction) → Stands img i x → P x) (passes t (C.view_at img i))
   unfolding word_view C.view_at
-  every_word f = every_reading P (λ r. t (view_of r)) z f (reading_at img i)
+  every_word f = every_reading P (λ r. passes t (view_of r)) refl f (reading_at img i)
 
-  pub some_word : ((x : Instruction) → Says (P x) (t (seen x))) → Says ((x : Instruction) × (Stands img i x × P x)) (t (C.view_at img i))
+  pub some_word : ((x : Instruction) → Says (P x) (t (seen x))) → Says ((x : Instruction) × (Stands img i x × P x)) (passes t (C.view_at img i))
   unfolding word_view C.view_at
-  some_word f = some_reading P (λ r. t (view_of r)) z (reading_at img i) (λ x e. f x)
+  some_word f = some_reading P (λ r. passes t (view_of r)) refl (reading_at img i) (λ x e. f x)
 
 module _ (img : List ℕ) (i : ℕ) where
-  rule8 : Denies (L.Rule8 img i) (not (C.view_at img i).legal)
-  unfolding seen
+  rule8 : Denies (L.Rule8 img i) (not (passes (λ v. true) (C.view_at img i)))
   rule8 =
       lacks (saying (λ h. (h.0, h.1.0)) (λ h. (h.0, (h.1, tt)))
-      (some_word img i (λ x. Unit {0}) (λ v. v.legal) refl (λ x. holds tt)))
+      (some_word img i (λ x. Unit {0}) (λ v. true) (λ x. holds tt)))
 
-  rule9 : Denies (L.Rule9 img i) (C.view_at img i).barred
+  rule9 : Denies (L.Rule9 img i) (passes (λ v. v.barred) (C.view_at img i))
   unfolding seen
-  rule9 = every_word img i _ (λ v. v.barred) refl (λ x. barred x.value x.kind)
+  rule9 = every_word img i _ (λ v. v.barred) (λ x. barred x.value x.kind)
 
-  rule10 : Denies (L.Rule10 img i) (C.broken10 (C.view_at img i))
+  rule10 : Denies (L.Rule10 img i) (passes C.broken10 (C.view_at img i))
   unfolding seen C.broken10
-  rule10 = every_word img i _ C.broken10 refl (λ x. both (bars (eqs _ _)) (bars (eqs _ _)))
+  rule10 = every_word img i _ C.broken10 (λ x. both (bars (eqs _ _)) (bars (eqs _ _)))
 
-  rule11 : Denies (L.Rule11 img i) (C.broken11 (C.view_at img i))
+  rule11 : Denies (L.Rule11 img i) (passes C.broken11 (C.view_at img i))
   unfolding seen C.broken11
   rule11 =
-      every_word img i _ C.broken11 refl
+      every_word img i _ C.broken11
       (λ x. subst (Denies _) (links (class_of x.kind).link _ _ _ _)
       (both (imps (jalrs x.kind) (bars (eqs _ _))) (imps (ands (trues _) (relatives (flow_of x))) (bars (eqs _ _)))))
     where
@@ -223,32 +207,32 @@ module _ (img : List ℕ) (i : ℕ) where
       links true a b c d = refl
       links false a b c d = refl
 
-  frees : Denies (L.Free img i) (needs_guard (C.view_at img i))
+  frees : Denies (L.Free img i) (passes needs_guard (C.view_at img i))
   unfolding seen
-  frees = every_word img i _ needs_guard refl (λ x. bars (needs_guard_law x))
+  frees = every_word img i _ needs_guard (λ x. bars (needs_guard_law x))
 
-  rule16 : Denies (L.Rule16 img i) (not (is_jump (C.view_at img i)))
+  rule16 : Denies (L.Rule16 img i) (not (passes is_jump (C.view_at img i)))
   unfolding seen
-  rule16 = lacks (some_word img i _ is_jump refl (λ x. ors (regions (flow_of x)) (registers (flow_of x))))
+  rule16 = lacks (some_word img i _ is_jump (λ x. ors (regions (flow_of x)) (registers (flow_of x))))
 
 module _ (img : List ℕ) (i : ℕ) where
   -- the word before, if there is one, doesn't branch
   abbrev AfterNone : Type 0
   AfterNone = 0 < i → (y : Instruction) → Stands img (i - 1) y → Not (L.Branches y)
 
-  branch_before : Denies AfterNone (is_branch (C.view_before img i))
+  branch_before : Denies AfterNone (passes is_branch (C.view_before img i))
   unfolding seen C.view_before
   branch_before = go (les 1 i)
     where
-      go : {b : Bool} → Says (1 ≤ i) b → Denies AfterNone (is_branch (cond b (C.view_at img (i - 1)) nothing))
-      go (holds h) = denying (λ f _. f) (λ f. f h) (every_word img (i - 1) _ is_branch refl (λ y. bars (branches y)))
+      go : {b : Bool} → Says (1 ≤ i) b → Denies AfterNone (passes is_branch (cond b (C.view_at img (i - 1)) None))
+      go (holds h) = denying (λ f _. f) (λ f. f h) (every_word img (i - 1) _ is_branch (λ y. bars (branches y)))
       go (fails h) = keeps (λ p. absurd (h p))
 
-  rule14 : Denies (L.Rule14 img i) (C.broken14 (is_branch (C.view_before img i)) (C.view_at img i))
+  rule14 : Denies (L.Rule14 img i) (passes (C.broken14 (passes is_branch (C.view_before img i))) (C.view_at img i))
   unfolding C.broken14
   rule14 =
       denying (λ f x y s b p. f x s b p y) (λ f x s b p y. f x y s b p)
-      (every_word img i _ (C.broken14 (is_branch (C.view_before img i))) refl (λ x. imps (branches x) branch_before))
+      (every_word img i _ (C.broken14 (passes is_branch (C.view_before img i))) (λ x. imps (branches x) branch_before))
 
 -- ---- guards
 
@@ -303,16 +287,16 @@ module _ (img : List ℕ) (i base r : ℕ) (Q : ℕ → Type 0) (t : ℕ → Boo
       (ands (les 2 (i % 4)) pairs)
 
 module _ (l : Layout) (img : List ℕ) (i : ℕ) where
-  rule12 : Denies (L.Rule12 l img i) (C.broken12 l.data_size img i (C.view_at img i))
+  rule12 : Denies (L.Rule12 l img i) (passes (C.broken12 l.data_size img i) (C.view_at img i))
   unfolding seen C.broken12
   rule12 =
-      every_word img i _ (C.broken12 l.data_size img i) refl
+      every_word img i _ (C.broken12 l.data_size img i)
       (λ x. imps (nots (eqs _ _)) (lacks (guards img i 26 x.rs _ _ (λ m. fits_data_law _ m _ _))))
 
-  rule13 : Denies (L.Rule13 l img i) (C.broken13 l.code_size img i (C.view_at img i))
+  rule13 : Denies (L.Rule13 l img i) (passes (C.broken13 l.code_size img i) (C.view_at img i))
   unfolding seen C.broken13
   rule13 =
-      every_word img i _ (C.broken13 l.code_size img i) refl
+      every_word img i _ (C.broken13 l.code_size img i)
       (λ x. imps (registers (flow_of x)) (lacks (guards img i 27 x.rs _ _ (λ m. fits_code_law _ m))))
 
   -- ---- targets
@@ -323,7 +307,7 @@ module _ (l : Layout) (img : List ℕ) (i : ℕ) where
 
   -- a test of the direct target, where there is one
   module _ (x : Instruction) (P : ℕ → Type 0) (t : ℕ → Bool) (p : (a : ℕ) → Denies (P a) (t a)) where
-    pub targets : Denies (L.AtTarget l i x P) (((seen x).relative || (seen x).region) && t (C.target_of (seen x) (l.code_base + 4 * i)))
+    pub targets : Denies (L.AtTarget l i x P) ((is_relative (seen x).flow || is_region (seen x).flow) && t (C.target_of (seen x) (l.code_base + 4 * i)))
     unfolding seen C.target_of
     targets = go (flow_of x) _ _
       where
@@ -333,9 +317,9 @@ module _ (l : Layout) (img : List ℕ) (i : ℕ) where
         go Region a b = denying (λ h. (λ e. absurd (other is_relative refl refl e), λ _. h)) (λ h. h.1 refl) (p b)
         go Register a b = keeps (λ e. absurd (other is_relative refl refl e), λ e. absurd (other is_region refl refl e))
 
-  rule15 : Denies (L.Rule15 l img i) (C.broken15 l img i (C.view_at img i))
+  rule15 : Denies (L.Rule15 l img i) (passes (C.broken15 l img i) (C.view_at img i))
   unfolding C.broken15
-  rule15 = every_word img i _ (C.broken15 l img i) refl (λ x. targets x (L.Lands l img) (λ a. not (C.lands l img a)) (λ a. lacks (landings a)))
+  rule15 = every_word img i _ (C.broken15 l img i) (λ x. targets x (L.Lands l img) (λ a. not (C.lands l img a)) (λ a. lacks (landings a)))
 
   pub word_rules : (n : ℕ) → Denies (WordRule l img n i) (is_word_broken l img n i)
   unfolding is_word_broken

@@ -6,9 +6,8 @@ use mathlib.Core.Logic.{◌⊎◌, inl, inr, ⊎_elim}
 use native.Mathlib.Omega.{arith}
 use lib.Dec.{eqb, leb, ltb}
 use borrow.Author.Tests.{ltb-true, ltb-false, leb-true, leb-false, eqb-true, eqb-false}
+use Rattle.std.specs.Prelude.{Option, Some, None}
 use Rattle.isa.specs.declared.kind.Instruction.{Instruction}
-use Rattle.isa.specs.declared.reading.Reading.{Reading}
-use Rattle.isa.specs.declared.reading.Reading.TheVariants.{Legal, NoInstruction}
 use Rattle.rules.specs.Not.{Not}
 use Rattle.checker.specs.Refusal.{pick}
 
@@ -113,15 +112,15 @@ stops (keeps p) h = absurd (h p)
 
 -- ---- tests on what a word reads as
 
-module _ (P : Instruction → Type 0) (t : Reading → Bool) where
+module _ (P : Instruction → Type 0) (t : Option Instruction → Bool) where
   -- broken by the instruction that is read; kept where there is none
-  pub every_reading : t NoInstruction ≡ false → ((x : Instruction) → Denies (P x) (t (Legal x))) → (r : Reading)
-      → Denies ((x : Instruction) → r ≡ Legal x → P x) (t r)
-  every_reading z f (Legal x) = denying (λ p y e. subst P (cc) p) (λ h. h x refl) (f x)
-  every_reading z f NoInstruction = rw z (keeps (λ x e. absurd (let y : ◌≡◌ {A = ℕ} 0 1 = cc in omega arith)))
+  pub every_reading : t None ≡ false → ((x : Instruction) → Denies (P x) (t (Some x))) → (r : Option Instruction)
+      → Denies ((x : Instruction) → r ≡ Some x → P x) (t r)
+  every_reading z f (Some x) = denying (λ p y e. subst P (cc) p) (λ h. h x refl) (f x)
+  every_reading z f None = rw z (keeps (λ x e. absurd (let y : ◌≡◌ {A = ℕ} 0 1 = cc in omega arith)))
 
   -- said of the instruction that is read; false where there is none
-  pub some_reading : t NoInstruction ≡ false → (r : Reading) → ((x : Instruction) → r ≡ Legal x → Says (P x) (t (Legal x)))
-      → Says ((x : Instruction) × ((r ≡ Legal x) × P x)) (t r)
-  some_reading z (Legal x) f = saying (λ p. (x, (refl, p))) (λ h. subst P (let e = h.1.0 in cc) h.1.1) (f x refl)
-  some_reading z NoInstruction f = rw z (fails (λ h. let e = h.1.0 in let y : ◌≡◌ {A = ℕ} 0 1 = cc in omega arith))
+  pub some_reading : t None ≡ false → (r : Option Instruction) → ((x : Instruction) → r ≡ Some x → Says (P x) (t (Some x)))
+      → Says ((x : Instruction) × ((r ≡ Some x) × P x)) (t r)
+  some_reading z (Some x) f = saying (λ p. (x, (refl, p))) (λ h. subst P (let e = h.1.0 in cc) h.1.1) (f x refl)
+  some_reading z None f = rw z (fails (λ h. let e = h.1.0 in let y : ◌≡◌ {A = ℕ} 0 1 = cc in omega arith))

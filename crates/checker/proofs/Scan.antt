@@ -1,8 +1,9 @@
 -- The words of an image in their order: what the parts of the code say, put together.
-use Prim.Native.Nat.{ℕ, suc, ◌+◌, ◌-◌, ◌/◌, ◌≤◌, ◌<◌}
-use mathlib.Core.Path.{◌≡◌, refl, sym, ap, ◌∙◌}
+use Prim.Native.Nat.{ℕ, zero, suc, ◌+◌, ◌-◌, ◌/◌, ◌≤◌, ◌<◌}
+use mathlib.Core.Path.{◌≡◌, refl, sym, subst, ap, ◌∙◌}
 use mathlib.Core.Bool.{Bool, true, false, not, cond, ◌||◌, false≢true}
 use mathlib.Core.List.{List, [], ◌∷◌, ◌++◌}
+use native.Mathlib.Nat.{zero-add, sub-zero}
 use native.Mathlib.Omega.{arith}
 use native.Mathlib.Numerals.{add-one}
 use lib.Dec.{eqb}
@@ -12,22 +13,25 @@ use Rattle.layout.specs.declared.Layout.{Layout}
 use Rattle.layout.specs.Layout.{layout_refusal, broken1, broken2, broken3, broken4, broken5, broken6}
 use Rattle.layout.proofs.Kept.{refusal_most, kept}
 use Rattle.view.specs.declared.View.{View}
-use Rattle.view.specs.View.{nothing, word_view, is_branch, is_jump, is_base}
+use Rattle.std.specs.Prelude.{Option, Some, None}
+use Rattle.view.specs.View.{word_view, passes, is_relative, is_region, is_branch, is_jump, is_base, is_plain}
 use Rattle.quick.specs.Plain.{PlainWord}
+use Rattle.refusal.specs.declared.Refusal.{Refusal}
+use Rattle.refusal.specs.Refusal.{number_of}
 use Rattle.word.proofs.Choice.{both, by_test, by_zero}
 use Rattle.checker.specs.declared.verdict.Verdict.{Verdict}
-use Rattle.checker.specs.declared.words.Tried.{Tried}
 use Rattle.rules.specs.Rules.{Sized, word_at, view_at, view_before, broken10, broken11, broken12, broken13, broken14, broken15}
-use Rattle.checker.specs.Scan.{file_refusal, word_refusal, tried_of, words_by, words_verdict}
-use Rattle.checker.specs.Check.{verdict, no_place, accepted, trials_at, trials_after, in_turn, trials_by, is_word_broken, is_file_broken, broken_by, first_of, check_of, code_of, placed_of}
+use Rattle.checker.specs.Scan.{file_refusal, word_refusal, number_of_branch, number_of_word, number_at, first_word, whole_verdict, end_verdict, words_verdict, words_by}
+use Rattle.checker.specs.Check.{verdict, no_place, trials_at, trials_after, in_turn, trials_by, is_word_broken, is_file_broken, broken_by, first_of, check_of, code_of, placed_of}
 use Rattle.checker.specs.Refusal.{All}
 use Rattle.rules.specs.Not.{Not}
+use Rattle.checker.proofs.Numbers.{not_zero}
 use Rattle.checker.proofs.Trials.{implied, of_words}
 
 -- ---- the word before
 
 module _ (img : List ℕ) where
-  pub none_before : nothing ≡ view_before img 0
+  pub none_before : None ≡ view_before img 0
   unfolding view_before
   none_before = refl
 
@@ -54,7 +58,53 @@ ladder t x false false false false false false true h = refl
 ladder t x false false false false false false false true = refl
 ladder t x false false false false false false false false = refl
 
--- ---- the loop of the code, whatever is tried of a word: i of n words are done
+-- ---- the loop of the code, whatever number a word has: i of n words are done
+
+module _ (number : ℕ → ℕ) (end : Verdict) (i n : ℕ) where
+  module _ (h : i < n) where
+    more : first_word number end (n - i) i ≡ cond (eqb (number i) 0) (first_word number end (n - (i + 1)) (i + 1)) (verdict (number i) i)
+    more = let z : n - i ≡ suc (n - (i + 1)) = omega arith in rw (z, add-one i)
+
+    pub scan_stop : (r : Refusal) → number_of r ≡ number i → verdict (number_of r) i ≡ first_word number end (n - i) i
+    scan_stop r e = sym (more ∙ (rw (← e, ne_eqb (number_of r) 0 (not_zero r))))
+
+    pub scan_go : 0 ≡ number i → first_word number end (n - (i + 1)) (i + 1) ≡ first_word number end (n - i) i
+    scan_go e = sym (more ∙ (rw (← e)))
+
+  pub scan_end : n ≤ i → end ≡ first_word number end (n - i) i
+  scan_end h = let z : n - i ≡ 0 = omega arith in rw z
+
+-- what is left of the words' verdict from word i on
+module _ (b : Layout → ℕ → View → ℕ) (w : Layout → List ℕ → ℕ) (l : Layout) (img : List ℕ) where
+  abbrev pub rest : ℕ → Verdict
+  rest i = first_word (number_at b l img) (end_verdict w l img (l.code_size / 4)) (l.code_size / 4 - i) i
+
+  pub begun : rest 0 ≡ words_verdict b w l img
+  unfolding words_verdict
+  begun = rw sub-zero
+
+  module _ (i : ℕ) (e : length img ≡ l.code_size) where
+    module _ (h : i < length img / 4) {after : Bool} (q : after ≡ passes is_branch (view_before img i)) where
+      pub stopped : (r : Refusal) → number_of r ≡ number_of_word b l img i after (view_at img i) → verdict (number_of r) i ≡ rest i
+      stopped r f = scan_stop (number_at b l img) _ i (l.code_size / 4) (omega (arith, h, e)) r (f ∙ ap (λ (a : Bool). number_of_word b l img i a (view_at img i)) q)
+
+      pub gone : 0 ≡ number_of_word b l img i after (view_at img i) → rest (i + 1) ≡ rest i
+      gone f = scan_go (number_at b l img) _ i (l.code_size / 4) (omega (arith, h, e)) (f ∙ ap (λ (a : Bool). number_of_word b l img i a (view_at img i)) q)
+
+    module _ (h : length img / 4 ≤ i) {x : ℕ} {j : Bool} (p : x ≡ word_at img (length img / 4 - 2)) (q : j ≡ passes is_jump (word_view x)) where
+      ended : cond (not j) (verdict 16 (length img / 4 - 2)) (whole_verdict (w l img)) ≡ rest i
+      unfolding view_at
+      ended =
+          let n : length img / 4 ≡ l.code_size / 4 = ap (λ (k : ℕ). k / 4) e in
+          rw (q, p, n) (scan_end (number_at b l img) _ i (l.code_size / 4) (omega (arith, h, n)))
+
+      pub no_last_jump : j ≡ false → verdict 16 (length img / 4 - 2) ≡ rest i
+      no_last_jump z = rw z at ended
+
+      pub whole : j ≡ true → {k : ℕ} → k ≡ w l img → whole_verdict k ≡ rest i
+      whole z f = rw f (rw z at ended)
+
+-- ---- the numbers of words are those of their trials
 
 module _ (word : ℕ → ℕ → Bool) (at after : ℕ → List Verdict) where
   abbrev first : List Verdict → Verdict
@@ -64,48 +114,60 @@ module _ (word : ℕ → ℕ → Bool) (at after : ℕ → List Verdict) where
   abbrev pub Gives : ℕ → ℕ → Type 0
   Gives i k = (ts : List Verdict) → first (at i ++ ts) ≡ given (λ (j : ℕ). verdict j i) (first ts) k
 
-  module _ (i n k : ℕ) (g : Gives i k) (h : i < n) where
-    more : words_by word at after (n - i) i ≡ given (λ (j : ℕ). verdict j i) (words_by word at after (n - (i + 1)) (i + 1)) k
-    more =
-        let z : n - i ≡ suc (n - (i + 1)) = omega arith in
-        rw (z, add-one i) (g (in_turn at after (n - suc i) (suc i)))
-
-    pub scan_stop : Not (k ≡ 0) → verdict k i ≡ words_by word at after (n - i) i
-    scan_stop z = sym (more ∙ (rw (ne_eqb k 0 z)))
-
-    pub scan_go : k ≡ 0 → words_by word at after (n - (i + 1)) (i + 1) ≡ words_by word at after (n - i) i
-    scan_go z = sym (more ∙ (rw z))
-
-  pub scan_end : (i n : ℕ) → i ≤ n → n ≤ i → first (after n) ≡ words_by word at after (n - i) i
-  scan_end i n h k =
-      let z : n - i ≡ 0 = omega arith in
-      let d : i ≡ n = omega arith in
-      rw (z, d)
+  pub turned : (number : ℕ → ℕ) (end : Verdict) → ((i : ℕ) → Gives i (number i)) → (n i : ℕ) → first (after (i + n)) ≡ end
+      → first_word number end n i ≡ words_by word at after n i
+  turned number end g zero i e = let z : i + 0 ≡ i = omega arith in sym (rw z at e)
+  turned number end g (suc n) i e =
+      let z : i + suc n ≡ suc i + n = omega arith in
+      ap (λ (x : Verdict). cond (eqb (number i) 0) x (verdict (number i) i)) (turned number end g n (suc i) (rw z at e))
+      ∙ sym (g i (in_turn at after n (suc i)))
 
 -- ---- the words of the checker
 
-module _ (l : Layout) (img : List ℕ) (i : ℕ) where
-  word_first : Gives (is_word_broken l img) trials_at trials_after i (word_refusal l img i (is_branch (view_before img i)) (view_at img i))
-  unfolding is_word_broken word_refusal
-  word_first ts =
-      let v = view_at img i in
-      ladder (λ (k : ℕ). verdict k i) (first_of (λ (t : Verdict). is_word_broken l img t.number t.place) ts) (not v.legal) v.barred
-      (broken10 v) (broken11 v) (broken12 l.data_size img i v) (broken13 l.code_size img i v)
-      (broken14 (is_branch (view_before img i)) v) (broken15 l img i v)
+-- the trials 8 to 15 of what a word is seen as, and the number that they give
+pub seen_ladder : (t : ℕ → Verdict) (x : Verdict) (l : Layout) (img : List ℕ) (i : ℕ) (after : Bool) (o : Option View)
+    → cond (not (passes (λ v. true) o)) (t 8)
+    (cond (passes (λ v. v.barred) o) (t 9)
+    (cond (passes broken10 o) (t 10)
+    (cond (passes broken11 o) (t 11)
+    (cond (passes (broken12 l.data_size img i) o) (t 12)
+    (cond (passes (broken13 l.code_size img i) o) (t 13)
+    (cond (passes (broken14 after) o) (t 14)
+    (cond (passes (broken15 l img i) o) (t 15) x)))))))
+    ≡ given t x (word_refusal l img i after o)
+unfolding word_refusal
+seen_ladder t x l img i after None = refl
+seen_ladder t x l img i after (Some v) =
+    ladder t x false v.barred (broken10 v) (broken11 v) (broken12 l.data_size img i v) (broken13 l.code_size img i v) (broken14 after v) (broken15 l img i v)
 
-  -- t is what word i gave
-  module _ {before : Bool} {t : Tried} (q : before ≡ is_branch (view_before img i)) (e : t ≡ tried_of l img i before (view_at img i)) where
-    pub tried_gives : Gives (is_word_broken l img) trials_at trials_after i t.number
-    tried_gives ts = word_first ts ∙ (rw (e, q))
+module _ (l : Layout) (img : List ℕ) where
+  word_first : (i : ℕ) → Gives (is_word_broken l img) trials_at trials_after i (word_refusal l img i (passes is_branch (view_before img i)) (view_at img i))
+  unfolding is_word_broken
+  word_first i ts =
+      seen_ladder (λ (k : ℕ). verdict k i) (first_of (λ (t : Verdict). is_word_broken l img t.number t.place) ts) l img i
+      (passes is_branch (view_before img i)) (view_at img i)
 
-    -- what the word leaves to the next
-    pub next_after : t.branch ≡ is_branch (view_before img (i + 1))
-    next_after = ap (λ (x : Tried). x.branch) e ∙ ap is_branch (one_before img i)
+  -- with no rule of branches beside them
+  none_more : (k i : ℕ) (o : Option View) → k ≡ cond (eqb k 0) (number_of_branch (λ _ _ _. 0) l i o) k
+  none_more k i o = by_zero (λ (x : ℕ). k ≡ x) k (λ z. z ∙ sym (none o)) (λ _. refl)
+    where
+      none : (o : Option View) → number_of_branch (λ _ _ _. 0) l i o ≡ 0
+      none None = refl
+      none (Some v) = by_test (λ (x : ℕ). x ≡ 0) (is_branch v) (λ _. refl) (λ _. refl)
 
-module _ (l : Layout) (img : List ℕ) (n : ℕ) {w : ℕ} {b : Bool} (p : w ≡ word_at img (n - 2)) (q : b ≡ is_jump (word_view w)) where
-  pub ended : first_of (λ (t : Verdict). is_word_broken l img t.number t.place) (trials_after n) ≡ cond (not b) (verdict 16 (n - 2)) accepted
-  unfolding is_word_broken view_at
-  ended = rw (q, p)
+  basic_gives : (i : ℕ) → Gives (is_word_broken l img) trials_at trials_after i (number_at (λ _ _ _. 0) l img i)
+  unfolding number_of_word
+  basic_gives i = subst (Gives (is_word_broken l img) trials_at trials_after i) (none_more _ i (view_at img i)) (word_first i)
+
+  basic_ended : (n : ℕ) → first_of (λ (t : Verdict). is_word_broken l img t.number t.place) (trials_after n) ≡ end_verdict (λ _ _. 0) l img n
+  unfolding is_word_broken
+  basic_ended n = refl
+
+  pub basic_words : words_verdict (λ _ _ _. 0) (λ _ _. 0) l img ≡ words_by (is_word_broken l img) trials_at trials_after (l.code_size / 4) 0
+  unfolding words_verdict
+  basic_words =
+      turned (is_word_broken l img) trials_at trials_after (number_at (λ _ _ _. 0) l img) _ basic_gives (l.code_size / 4) 0
+      (rw zero-add (basic_ended (l.code_size / 4)))
 
 -- ---- a word that is plain need not be read
 
@@ -113,24 +175,39 @@ pub neither : (a b : Bool) → a || b ≡ false → (a ≡ false) × (b ≡ fals
 neither true b h = absurd (false≢true (sym h))
 neither false b h = (refl, h)
 
-module _ (l : Layout) (img : List ℕ) (i : ℕ) (after : Bool) where
-  pub plain_tried : (w : ℕ) → w ≡ word_at img i → PlainWord w → record { number = 0; branch = false } ≡ tried_of l img i after (view_at img i)
-  unfolding word_refusal broken10 broken11 broken12 broken13 broken14 broken15 view_at
-  plain_tried w e h =
-      let v = word_view w in
-      let a = both v.legal _ h in
-      let b = both (not v.barred) _ a.1 in
+plain_none : (o : Option View) → passes is_plain o ≡ true → false ≡ passes is_branch o
+plain_none None h = refl
+plain_none (Some v) h =
+    let b = both (not v.barred) _ h in
+    let c = both (not (is_base v.written)) _ b.1 in
+    let d = both (not v.link) _ c.1 in
+    let f = both (eqb v.width 0) _ d.1 in
+    sym (not-true (is_branch v) f.1)
+
+module _ (of_branch : Layout → ℕ → View → ℕ) (l : Layout) (img : List ℕ) (i : ℕ) (after : Bool) where
+  plain_zero : (o : Option View) → passes is_plain o ≡ true → 0 ≡ number_of_word of_branch l img i after o
+  unfolding number_of_word word_refusal broken10 broken11 broken12 broken13 broken14 broken15
+  plain_zero None h = absurd (false≢true h)
+  plain_zero (Some v) h =
+      let b = both (not v.barred) _ h in
       let c = both (not (is_base v.written)) _ b.1 in
       let d = both (not v.link) _ c.1 in
       let f = both (eqb v.width 0) _ d.1 in
-      let g = neither v.relative _ (not-true (is_branch v) f.1) in
-      let j = neither v.region _ g.1 in
-      rw (← e, a.0, not-true v.barred b.0, not-true (is_base v.written) c.0, not-true v.link d.0, f.0, g.0, j.0, j.1)
+      let g = neither (is_relative v.flow) _ (not-true (is_branch v) f.1) in
+      let j = neither (is_region v.flow) _ g.1 in
+      rw (not-true v.barred b.0, not-true (is_base v.written) c.0, not-true v.link d.0, f.0, g.0, j.0, j.1)
 
-  pub tried_read : (w : ℕ) {v : View} {n : ℕ} {b : Bool} → w ≡ word_at img i → v ≡ word_view w → n ≡ word_refusal l img i after v → b ≡ is_branch v
-      → record { number = n; branch = b } ≡ tried_of l img i after (view_at img i)
+module _ (l : Layout) (img : List ℕ) (i : ℕ) {w : ℕ} (e : w ≡ word_at img i) where
+  pub view_is : {v : Option View} → v ≡ word_view w → v ≡ view_at img i
   unfolding view_at
-  tried_read w e p q r = rw (q, r, p, e)
+  view_is q = q ∙ ap word_view e
+
+  module _ (h : PlainWord w) where
+    pub plain_branch : false ≡ passes is_branch (view_at img i)
+    plain_branch = plain_none (view_at img i) (ap (passes is_plain) (sym (view_is refl)) ∙ h)
+
+    pub plain_number : (of_branch : Layout → ℕ → View → ℕ) (after : Bool) → 0 ≡ number_of_word of_branch l img i after (view_at img i)
+    plain_number of_branch after = plain_zero of_branch l img i after (view_at img i) (ap (passes is_plain) (sym (view_is refl)) ∙ h)
 
 -- ---- the whole
 
@@ -192,10 +269,10 @@ cleared k true true h q = (eqb-true k 0 h, refl)
 cleared k true false h q = absurd (omega (arith, q))
 cleared k false e h q = absurd (eqb-false k 0 h q)
 
-module _ (l : Layout) (len : ℕ) (img : List ℕ) {r : ℕ} (e : r ≡ file_refusal l len img) (z : r ≡ 0) where
+module _ (l : Layout) (len : ℕ) (img : List ℕ) (e : 0 ≡ file_refusal l len img) where
   left : (layout_refusal l len ≡ 0) × (eqb (length img) l.code_size ≡ true)
   unfolding file_refusal
-  left = cleared (layout_refusal l len) _ _ refl (sym e ∙ z)
+  left = cleared (layout_refusal l len) _ _ refl (sym e)
 
   pub sized : Sized l img
   sized =
@@ -222,24 +299,23 @@ module _ (P : ℕ → Type 0) (l : Layout) (len : ℕ) (img : List ℕ) where
 pub all_of_words : (n i : ℕ) → All OfWords (in_turn trials_at trials_after n i)
 all_of_words n i = of_words OfWords trials_at trials_after n i (λ j _ _. omega arith, omega arith)
 
-module _ (l : Layout) (len : ℕ) (img : List ℕ) {r : ℕ} where
-  module _ (e : r ≡ file_refusal l len img) where
-    pub check_refused : Not (r ≡ 0) → verdict r no_place ≡ check_of l len img
-    unfolding check_of
-    check_refused = file_refused (is_word_broken l img) trials_at trials_after l len img e
+module _ (l : Layout) (len : ℕ) (img : List ℕ) where
+  pub check_refused : (r : Refusal) → number_of r ≡ file_refusal l len img → verdict (number_of r) no_place ≡ check_of l len img
+  unfolding check_of
+  check_refused r e = file_refused (is_word_broken l img) trials_at trials_after l len img e (not_zero r)
 
-    pub check_tried : r ≡ 0 → {v : Verdict} → v ≡ words_verdict l img (l.code_size / 4) 0 → v ≡ check_of l len img
-    unfolding check_of words_verdict
-    check_tried z q = words_tried (is_word_broken l img) trials_at trials_after l len img e z (all_of_words (l.code_size / 4) 0) q
+  pub check_tried : (v : Verdict) → 0 ≡ file_refusal l len img → v ≡ words_verdict (λ _ _ _. 0) (λ _ _. 0) l img → v ≡ check_of l len img
+  unfolding check_of
+  check_tried v e q = words_tried (is_word_broken l img) trials_at trials_after l len img e refl (all_of_words (l.code_size / 4) 0) (q ∙ basic_words l img)
 
-  pub layout_refused : r ≡ layout_refusal l len → Not (r ≡ 0) → verdict r no_place ≡ check_of l len img
+  pub layout_refused : (r : Refusal) → number_of r ≡ layout_refusal l len → verdict (number_of r) no_place ≡ check_of l len img
   unfolding file_refusal
-  layout_refused e h = check_refused (rw (← e, ne_eqb r 0 h)) h
+  layout_refused r e = check_refused r (rw (← e, ne_eqb (number_of r) 0 (not_zero r)))
 
 -- ---- the code area of a memory
 
-pub part_inside : (l : Layout) (len : ℕ) {r : ℕ} → r ≡ layout_refusal l len → r ≡ 0 → l.code_base + l.code_size ≤ len
-part_inside l len e z = (kept l len (sym e ∙ z)).inside
+pub part_inside : (l : Layout) (len : ℕ) → 0 ≡ layout_refusal l len → l.code_base + l.code_size ≤ len
+part_inside l len e = (kept l len (sym e)).inside
 
 pub part_is : (l : Layout) (mem : List ℕ)
     → check_of l (length mem) (take (l.code_base + l.code_size - l.code_base) (drop l.code_base mem)) ≡ placed_of l mem

@@ -27,7 +27,7 @@ module _ (P : Verdict → Type 0) (word : ℕ → ℕ → Bool) (at after : ℕ 
   by_number : (r : ℕ) → r ≡ file_refusal l len img → P (first_of (broken_by word l len img) (trials_by at after l))
   by_number zero e =
       subst P (words_tried word at after l len img e refl above refl)
-      (first_of_law P _ (in_turn at after (words_in l) 0) (file 0 (omega arith)) (words (sized l len img e refl).least))
+      (first_of_law P _ (in_turn at after (words_in l) 0) (file 0 (omega arith)) (words (sized l len img e).least))
   by_number (suc r) e =
       subst P (file_refused word at after l len img e (λ z. omega (arith, z)))
       (subst (λ k. P (verdict k no_place)) (sym e) (by_file (λ k. P (verdict k no_place)) l len img file image))

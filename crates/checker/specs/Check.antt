@@ -1,6 +1,6 @@
 -- The checker: every rule at every place, tried in document 01's order, until one is broken.
-use Rattle.std.specs.Prelude.{ℕ, zero, suc, ◌-◌, ◌/◌, Bool, false, cond, not, List, [], ◌∷◌, ◌++◌, eqb, leb, length, take, drop}
-use Rattle.view.specs.View.{is_branch, is_jump}
+use Rattle.std.specs.Prelude.{ℕ, zero, suc, ◌-◌, ◌/◌, Bool, true, false, cond, not, List, [], ◌∷◌, ◌++◌, eqb, leb, length, take, drop}
+use Rattle.view.specs.View.{passes, is_branch, is_jump}
 use Rattle.layout.specs.declared.Layout.{Layout}
 use Rattle.layout.specs.Layout.{broken1, broken2, broken3, broken4, broken5, broken6}
 use Rattle.checker.specs.declared.verdict.Verdict.{Verdict}
@@ -51,15 +51,15 @@ trials_of l = trials_by trials_at trials_after l
 -- 8 to 16, at word i
 unfoldable pub is_word_broken : Layout → List ℕ → ℕ → ℕ → Bool
 is_word_broken l img n i =
-    cond (eqb n 8) (not (view_at img i).legal)
-    (cond (eqb n 9) (view_at img i).barred
-    (cond (eqb n 10) (broken10 (view_at img i))
-    (cond (eqb n 11) (broken11 (view_at img i))
-    (cond (eqb n 12) (broken12 l.data_size img i (view_at img i))
-    (cond (eqb n 13) (broken13 l.code_size img i (view_at img i))
-    (cond (eqb n 14) (broken14 (is_branch (view_before img i)) (view_at img i))
-    (cond (eqb n 15) (broken15 l img i (view_at img i))
-    (cond (eqb n 16) (not (is_jump (view_at img i))) false))))))))
+    cond (eqb n 8) (not (passes (λ v. true) (view_at img i)))
+    (cond (eqb n 9) (passes (λ v. v.barred) (view_at img i))
+    (cond (eqb n 10) (passes broken10 (view_at img i))
+    (cond (eqb n 11) (passes broken11 (view_at img i))
+    (cond (eqb n 12) (passes (broken12 l.data_size img i) (view_at img i))
+    (cond (eqb n 13) (passes (broken13 l.code_size img i) (view_at img i))
+    (cond (eqb n 14) (passes (broken14 (passes is_branch (view_before img i))) (view_at img i))
+    (cond (eqb n 15) (passes (broken15 l img i) (view_at img i))
+    (cond (eqb n 16) (not (passes is_jump (view_at img i))) false))))))))
 
 -- 1 to 7; len is the memory's length
 unfoldable pub is_file_broken : Layout → ℕ → List ℕ → ℕ → Bool

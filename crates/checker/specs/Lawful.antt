@@ -1,5 +1,5 @@
 -- The rules as a reader of document 01 states them: propositions about the instructions of an image, with no order and no checker.
-use Rattle.std.specs.Prelude.{ℕ, ◌+◌, ◌-◌, ◌*◌, ◌/◌, ◌%◌, ◌^◌, ◌≤◌, ◌<◌, ◌≡◌, true, ◌⊎◌, List, ℤ, pos, length}
+use Rattle.std.specs.Prelude.{ℕ, ◌+◌, ◌-◌, ◌*◌, ◌/◌, ◌%◌, ◌^◌, ◌≤◌, ◌<◌, ◌≡◌, true, ◌⊎◌, List, ℤ, pos, length, Some}
 use Rattle.word.specs.Bytes.{load_of, longest}
 use Rattle.isa.specs.declared.kind.Alu.TheVariants.{Or}
 use Rattle.isa.specs.declared.kind.Immediate.TheVariants.{Andi}
@@ -9,7 +9,6 @@ use Rattle.isa.specs.declared.kind.Kind.TheVariants as K
 use Rattle.isa.specs.declared.kind.Instruction.{Instruction}
 use Rattle.class.specs.declared.Flow.{Flow}
 use Rattle.class.specs.declared.Flow.TheVariants.{Onward, Relative, Region, Register}
-use Rattle.isa.specs.declared.reading.Reading.TheVariants.{Legal}
 use Rattle.class.specs.Class.{class_of, register_written}
 use Rattle.isa.specs.Reading.{read_of}
 use Rattle.layout.specs.declared.Layout.{Layout}
@@ -35,7 +34,7 @@ Apart l = (l.code_base + l.code_size ≤ l.data_base) ⊎ (l.data_base + l.data_
 
 -- instruction x stands at word i of the image
 abbrev pub Stands : List ℕ → ℕ → Instruction → Type 0
-Stands img i x = read_of (load_of 4 img (4 * i)) ≡ Legal x
+Stands img i x = read_of (load_of 4 img (4 * i)) ≡ Some x
 
 abbrev pub width_of : Instruction → ℕ
 width_of x = (class_of x.kind).width

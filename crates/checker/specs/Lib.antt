@@ -1,4 +1,5 @@
 pub mod Check
+pub mod Said
 pub mod Scan
 pub mod Lawful
 pub mod Refusal

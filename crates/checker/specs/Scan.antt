@@ -1,36 +1,64 @@
 -- What the code asks of layout and image, and of one word: the first of 1 to 7, or of 8 to 15, that is broken, 0 where none is; and whether a
 -- word is a branch or jump. The verdict (`check_of`) does not rest on this; `file_first` and `word_first` of proofs/Scan tie the two together.
-use Rattle.std.specs.Prelude.{ℕ, Bool, cond, not, List, eqb, length}
+use Rattle.std.specs.Prelude.{ℕ, zero, suc, ◌≡◌, ◌-◌, ◌/◌, Bool, cond, not, List, IfOk, Option, Some, None, Result, eqb, length}
+use Rattle.refusal.specs.declared.Refusal.{Refusal}
 use Rattle.layout.specs.declared.Layout.{Layout}
 use Rattle.layout.specs.Layout.{layout_refusal}
 use Rattle.view.specs.declared.View.{View}
-use Rattle.view.specs.View.{is_branch}
-use Rattle.rules.specs.Rules.{broken10, broken11, broken12, broken13, broken14, broken15}
+use Rattle.view.specs.View.{passes, is_branch, is_jump}
+use Rattle.rules.specs.Rules.{view_at, view_before, broken10, broken11, broken12, broken13, broken14, broken15}
 use Rattle.checker.specs.declared.verdict.Verdict.{Verdict}
-use Rattle.checker.specs.declared.words.Tried.{Tried}
-use Rattle.checker.specs.Check.{trials_at, trials_after, in_turn, is_word_broken, first_of}
+use Rattle.checker.specs.Check.{verdict, no_place, accepted, in_turn, first_of}
 
 unfoldable pub file_refusal : Layout → ℕ → List ℕ → ℕ
 file_refusal l len img =
     cond (eqb (layout_refusal l len) 0) (cond (eqb (length img) l.code_size) 0 7) (layout_refusal l len)
 
-unfoldable pub word_refusal : Layout → List ℕ → ℕ → Bool → View → ℕ
-word_refusal l img i after v =
-    cond (not v.legal) 8
-    (cond v.barred 9
+-- of what word i is seen as
+unfoldable pub word_refusal : Layout → List ℕ → ℕ → Bool → Option View → ℕ
+word_refusal l img i after None = 8
+word_refusal l img i after (Some v) =
+    cond v.barred 9
     (cond (broken10 v) 10
     (cond (broken11 v) 11
     (cond (broken12 l.data_size img i v) 12
     (cond (broken13 l.code_size img i v) 13
     (cond (broken14 after v) 14
-    (cond (broken15 l img i v) 15 0)))))))
+    (cond (broken15 l img i v) 15 0))))))
 
-abbrev pub tried_of : Layout → List ℕ → ℕ → Bool → View → Tried
-tried_of l img i after v = record { number = word_refusal l img i after v; branch = is_branch v }
+-- ---- the same with the rules of a profile: of_branch is asked of branches and jumps after 15, of_whole after 16
 
--- the verdict on n words from word i on
+abbrev pub number_of_branch : (Layout → ℕ → View → ℕ) → Layout → ℕ → Option View → ℕ
+number_of_branch of_branch l i None = 0
+number_of_branch of_branch l i (Some v) = cond (is_branch v) (of_branch l i v) 0
+
+unfoldable pub number_of_word : (Layout → ℕ → View → ℕ) → Layout → List ℕ → ℕ → Bool → Option View → ℕ
+number_of_word of_branch l img i after v =
+    cond (eqb (word_refusal l img i after v) 0) (number_of_branch of_branch l i v) (word_refusal l img i after v)
+
+-- what is handed on of a word that breaks nothing
+abbrev pub SaysBranch : Result Bool Refusal → Option View → Type 0
+SaysBranch r v = IfOk r (λ b. b ≡ passes is_branch v)
+
+abbrev pub number_at : (Layout → ℕ → View → ℕ) → Layout → List ℕ → ℕ → ℕ
+number_at of_branch l img i = number_of_word of_branch l img i (passes is_branch (view_before img i)) (view_at img i)
+
+-- of n words from word i on, each of which has a number, the first that is not 0, at its place; `end` where all are
+abbrev pub first_word : (ℕ → ℕ) → Verdict → ℕ → ℕ → Verdict
+first_word number end zero i = end
+first_word number end (suc n) i = cond (eqb (number i) 0) (first_word number end n (suc i)) (verdict (number i) i)
+
+abbrev pub whole_verdict : ℕ → Verdict
+whole_verdict k = cond (eqb k 0) accepted (verdict k no_place)
+
+-- after n words
+abbrev pub end_verdict : (Layout → List ℕ → ℕ) → Layout → List ℕ → ℕ → Verdict
+end_verdict of_whole l img n = cond (not (passes is_jump (view_at img (n - 2)))) (verdict 16 (n - 2)) (whole_verdict (of_whole l img))
+
+unfoldable pub words_verdict : (Layout → ℕ → View → ℕ) → (Layout → List ℕ → ℕ) → Layout → List ℕ → Verdict
+words_verdict of_branch of_whole l img =
+    first_word (number_at of_branch l img) (end_verdict of_whole l img (l.code_size / 4)) (l.code_size / 4) 0
+
+-- the verdict on n words from word i on, by trials
 abbrev pub words_by : (ℕ → ℕ → Bool) → (ℕ → List Verdict) → (ℕ → List Verdict) → ℕ → ℕ → Verdict
 words_by word at after n i = first_of (λ (t : Verdict). word t.number t.place) (in_turn at after n i)
-
-unfoldable pub words_verdict : Layout → List ℕ → ℕ → ℕ → Verdict
-words_verdict l img n i = words_by (is_word_broken l img) trials_at trials_after n i

@@ -1,8 +1,26 @@
-// What the checker says: 0, or the number of a rule, and the index of the word where it is broken.
+// What the checker says of a module, and the same for C.
 ghost use Rattle.std.specs.Prelude.{◌≡◌};
-ghost use Rattle.checker.specs.Check as Spec;
 
-// struct cc100_verdict.
+use refusal::Refusal;
+
+// The rule that is broken, and the index of the word where it is; no place where the rule is of layout and image.
+#[derive(Clone, Copy)]
+pub struct Refused {
+    pub rule: Refusal,
+    pub place: Option<u32>,
+}
+
+impl From<Refusal> for Refused {
+    ghost use Rattle.checker.specs.Said.{IsPlaceless};
+
+    ghost from_gives = { IsPlaceless };
+
+    fn from(rule: Refusal) -> Refused {
+        Refused { rule, place: None }
+    }
+}
+
+// struct cc100_verdict: 0, or the rule's number.
 #[repr(C)]
 #[derive(Clone, Copy)]
 pub struct Verdict {
@@ -11,10 +29,23 @@ pub struct Verdict {
 }
 
 // The place of what is no word's.
-pub const NO_PLACE: u32 = 0xFFFFFFFF;
+const NO_PLACE: u32 = 0xFFFFFFFF;
 
-pub fn at(number: u32, place: u32) -> Verdict
-    ensures { result ≡ Spec.verdict number place }
-{
-    Verdict { number, place }
+impl From<Result<(), Refused>> for Verdict {
+    ghost use Rattle.checker.specs.Said.{IsVerdictOf};
+
+    ghost from_gives = { IsVerdictOf };
+
+    fn from(said: Result<(), Refused>) -> Verdict {
+        match said {
+            Ok(()) => Verdict {
+                number: 0,
+                place: NO_PLACE,
+            },
+            Err(refused) => Verdict {
+                number: u32::from(refused.rule),
+                place: refused.place.unwrap_or(NO_PLACE),
+            },
+        }
+    }
 }

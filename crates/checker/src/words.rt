@@ -1,91 +1,127 @@
 // The words of an image in their order, each tried with 8 to 15.
-ghost use Rattle.std.specs.Prelude.{◌≡◌, ◌+◌, ◌*◌, ◌/◌, ◌≤◌, length};
-ghost use Rattle.rules.specs.Rules.{Sized, view_at};
+ghost use Rattle.std.specs.Prelude.{◌≡◌, ℕ, List, Some};
+ghost use Rattle.layout.specs.declared.Layout.{Layout};
+ghost use Rattle.refusal.specs.Refusal.{refused_number};
+ghost use Rattle.rules.specs.Rules.{view_at};
+ghost use Rattle.view.specs.declared.View.{View};
+ghost use Rattle.checker.specs.Said.{verdict_of};
 ghost use Rattle.checker.specs.Scan as Spec;
 
-use crate::verdict;
-use crate::verdict::Verdict;
-use layout::Layout;
-use rules::{guard, image, landing, single};
+use crate::verdict::Refused;
+use quick::guard::is_jump;
+use refusal::Refusal;
+use rules::image::word_at;
+use rules::site::{Module, Site};
+use rules::{guard, landing, single};
 use view::View;
 
-// What a word gave: the first rule that it breaks or 0, and whether it is a branch or jump.
-#[derive(Clone, Copy)]
-pub struct Tried {
-    pub number: u32,
-    pub branch: bool,
+// The rules that a profile has beside document 01's: of each branch or jump, after 15, and of the whole, after 16.
+pub trait Profile {
+    // each a refusal's number; 0 where none is broken
+    ghost of_branch: { Layout → ℕ → View → ℕ };
+
+    ghost of_whole: { Layout → List ℕ → ℕ };
+
+    // v is the view of the word, a branch or jump.
+    fn check_branch(site: Site, v: View) -> Result<(), Refusal>
+        ensures { refused_number result ≡ of_branch site.entry.whole.layout site.entry.index v };
+
+    fn check_whole(whole: Module) -> Result<(), Refusal>
+        ensures { refused_number result ≡ of_whole whole.entry.layout whole.entry.image.now };
 }
 
-// v is the view of word i, and after says whether the word before it is a branch or jump.
-pub fn word_refusal(layout: Layout, image: &[u8], i: usize, after: bool, v: View) -> u32
-    requires { Sized layout image.now × (4 * i + 4 ≤ length image.now) }
-    ensures { result ≡ Spec.word_refusal layout image.now i after v }
-{
-    if !v.legal {
-        return 8;
+// Document 01's rules alone.
+pub struct Basic;
+
+impl Profile for Basic {
+    ghost of_branch = { λ l i v. 0 };
+
+    ghost of_whole = { λ l img. 0 };
+
+    fn check_branch(_site: Site, _v: View) -> Result<(), Refusal> {
+        Ok(())
     }
+
+    fn check_whole(_whole: Module) -> Result<(), Refusal> {
+        Ok(())
+    }
+}
+
+// v is the view of the word, and after says whether the word before it is a branch or jump.
+#[tactic(auto, unfolding(crate::specs::Scan::word_refusal))]
+pub fn check_word(site: Site, after: bool, v: View) -> Result<(), Refusal>
+    ensures { refused_number result ≡ Spec.word_refusal site.entry.whole.layout site.entry.whole.image.now site.entry.index after (Some v) }
+{
+    let word = site.word();
+    let layout = site.whole.layout;
     if v.barred {
-        return 9;
+        return Err(Refusal::Barred);
     }
     if single::breaks10(v) {
-        return 10;
+        return Err(Refusal::WritesBase);
     }
     if single::breaks11(v) {
-        return 11;
+        return Err(Refusal::LinkOverBase);
     }
-    if guard::breaks12(layout.data_size, image, i, v) {
-        return 12;
+    if guard::breaks12(layout.data_size, word, v) {
+        return Err(Refusal::DataGuard);
     }
-    if guard::breaks13(layout.code_size, image, i, v) {
-        return 13;
+    if guard::breaks13(layout.code_size, word, v) {
+        return Err(Refusal::CodeGuard);
     }
     if single::breaks14(after, v) {
-        return 14;
+        return Err(Refusal::BranchAfterBranch);
     }
-    if landing::breaks15(layout, image, i, v) {
-        return 15;
+    if landing::breaks15(site, v) {
+        return Err(Refusal::Target);
     }
-    0
+    Ok(())
 }
 
-// A plain word breaks none of 8 to 15 and is no branch: it need not be read.
-fn try_word(layout: Layout, image: &[u8], i: usize, after: bool) -> Tried
-    requires { Sized layout image.now × (4 * i + 4 ≤ length image.now) }
-    ensures { result ≡ Spec.tried_of layout image.now i after (view_at image.now i) }
+// Whether the word is a branch or jump, where it breaks no rule. A plain word breaks none of 8 to 15 and is no branch: it need not be read.
+#[tactic(auto, using(crate::proofs::Scan::plain_branch, crate::proofs::Scan::plain_number, crate::proofs::Scan::view_is), unfolding(crate::specs::Scan::number_of_word, crate::specs::Scan::word_refusal))]
+fn try_word<P: Profile>(site: Site, after: bool) -> Result<bool, Refusal>
+    ensures number { refused_number result ≡ Spec.number_of_word P.of_branch site.entry.whole.layout site.entry.whole.image.now site.entry.index after (view_at site.entry.whole.image.now site.entry.index) }
+    ensures branch { Spec.SaysBranch result (view_at site.entry.whole.image.now site.entry.index) }
 {
-    let w = image::word_at(image, i);
+    let w = site.word().value();
     if quick::plain::is_plain(w) {
-        return Tried {
-            number: 0,
-            branch: false,
-        };
+        return Ok(false);
     }
-    let v = view::of_word(w);
-    let number = word_refusal(layout, image, i, after, v);
-    Tried {
-        number,
-        branch: single::is_branch(v),
+    let Some(v) = view::of_word(w) else {
+        return Err(Refusal::NoInstruction);
+    };
+    check_word(site, after, v)?;
+    let branch = v.is_branch();
+    if branch {
+        P::check_branch(site, v)?;
     }
+    Ok(branch)
 }
 
 // The words from index 0, each with 8 to 15; then 16.
-pub(crate) fn words_verdict(layout: Layout, image: &[u8]) -> Verdict
-    requires { Sized layout image.now }
-    ensures { result ≡ Spec.words_verdict layout image.now (layout.code_size / 4) 0 }
+pub fn check_words<P: Profile>(whole: Module) -> Result<(), Refused>
+    ensures { verdict_of result ≡ Spec.words_verdict P.of_branch P.of_whole whole.entry.layout whole.entry.image.now }
 {
-    let n = image.len() / 4;
+    let n = whole.image.len() / 4;
     let mut after = false;
-    let mut i: usize = 0;
-    while i < n {
-        let t = try_word(layout, image, i, after);
-        if t.number != 0 {
-            return verdict::at(t.number, i as u32);
+    for i in 0..n {
+        match try_word::<P>(Site { whole, index: i }, after) {
+            Ok(branch) => after = branch,
+            Err(rule) => {
+                return Err(Refused {
+                    rule,
+                    place: Some(i as u32),
+                });
+            }
         }
-        after = t.branch;
-        i += 1;
     }
-    if quick::guard::is_jump(image::word_at(image, n - 2)) {
-        return verdict::at(0, verdict::NO_PLACE);
+    if !is_jump(word_at(whole.image, n - 2)) {
+        return Err(Refused {
+            rule: Refusal::NoLastJump,
+            place: Some((n - 2) as u32),
+        });
     }
-    verdict::at(16, (n - 2) as u32)
+    P::check_whole(whole)?;
+    Ok(())
 }

@@ -7,7 +7,7 @@ ghost use Rattle.class.specs.Class as C;
 use isa::kind::{Access, Branch, Instruction, Kind, Multiply, System};
 
 // Where control goes after the slot.
-#[derive(Clone, Copy)]
+#[derive(Clone, Copy, PartialEq, Eq)]
 pub enum Flow {
     // to the next word
     Onward,
@@ -31,7 +31,7 @@ pub enum Destination {
 
 #[derive(Clone, Copy)]
 pub struct Class {
-    // bytes loaded or stored; 0: not an access
+    // Bytes loaded or stored; 0: not an access. A number and no Option, which is no plainer: the rules add it up as it is.
     pub width: u32,
     pub store: bool,
     pub flow: Flow,
@@ -56,10 +56,7 @@ fn loads(width: u32) -> Class
 {
     Class {
         width,
-        store: false,
-        flow: Flow::Onward,
-        link: false,
-        destination: Destination::FieldRt,
+        ..plain(Destination::FieldRt)
     }
 }
 
@@ -69,9 +66,7 @@ fn stores(width: u32, destination: Destination) -> Class
     Class {
         width,
         store: true,
-        flow: Flow::Onward,
-        link: false,
-        destination,
+        ..plain(destination)
     }
 }
 
@@ -79,11 +74,8 @@ fn branches(flow: Flow) -> Class
     ensures { result ≡ C.branches flow }
 {
     Class {
-        width: 0,
-        store: false,
         flow,
-        link: false,
-        destination: Destination::Nowhere,
+        ..plain(Destination::Nowhere)
     }
 }
 
@@ -91,11 +83,9 @@ fn links(flow: Flow, destination: Destination) -> Class
     ensures { result ≡ C.links flow destination }
 {
     Class {
-        width: 0,
-        store: false,
         flow,
         link: true,
-        destination,
+        ..plain(destination)
     }
 }
 
@@ -103,14 +93,13 @@ fn multiply_class(k: Multiply) -> Class
     ensures { result ≡ C.multiply_class k }
 {
     match k {
-        Multiply::Mfhi => plain(Destination::FieldRd),
-        Multiply::Mflo => plain(Destination::FieldRd),
-        Multiply::Mult => plain(Destination::Nowhere),
-        Multiply::Multu => plain(Destination::Nowhere),
-        Multiply::Div => plain(Destination::Nowhere),
-        Multiply::Divu => plain(Destination::Nowhere),
-        Multiply::Mthi => plain(Destination::Nowhere),
-        Multiply::Mtlo => plain(Destination::Nowhere),
+        Multiply::Mfhi | Multiply::Mflo => plain(Destination::FieldRd),
+        Multiply::Mult
+        | Multiply::Multu
+        | Multiply::Div
+        | Multiply::Divu
+        | Multiply::Mthi
+        | Multiply::Mtlo => plain(Destination::Nowhere),
     }
 }
 
@@ -118,15 +107,12 @@ fn access_class(k: Access) -> Class
     ensures { result ≡ C.access_class k }
 {
     match k {
-        Access::Lb => loads(1),
-        Access::Lbu => loads(1),
+        Access::Lb | Access::Lbu => loads(1),
+        Access::Lh | Access::Lhu => loads(2),
+        Access::Lw | Access::Ll => loads(4),
         Access::Sb => stores(1, Destination::Nowhere),
-        Access::Lh => loads(2),
-        Access::Lhu => loads(2),
         Access::Sh => stores(2, Destination::Nowhere),
-        Access::Lw => loads(4),
         Access::Sw => stores(4, Destination::Nowhere),
-        Access::Ll => loads(4),
         Access::Sc => stores(4, Destination::FieldRt),
     }
 }
@@ -139,14 +125,9 @@ fn branch_class(k: Branch) -> Class
         Branch::Jal => links(Flow::Region, Destination::Return),
         Branch::Jr => branches(Flow::Register),
         Branch::Jalr => links(Flow::Register, Destination::FieldRd),
-        Branch::Beq => branches(Flow::Relative),
-        Branch::Bne => branches(Flow::Relative),
-        Branch::Blez => branches(Flow::Relative),
-        Branch::Bgtz => branches(Flow::Relative),
-        Branch::Bltz => branches(Flow::Relative),
-        Branch::Bgez => branches(Flow::Relative),
-        Branch::Bltzal => links(Flow::Relative, Destination::Return),
-        Branch::Bgezal => links(Flow::Relative, Destination::Return),
+        Branch::Beq | Branch::Bne | Branch::Blez | Branch::Bgtz | Branch::Bltz | Branch::Bgez =>
+            branches(Flow::Relative),
+        Branch::Bltzal | Branch::Bgezal => links(Flow::Relative, Destination::Return),
     }
 }
 
@@ -155,11 +136,9 @@ fn system_class(k: System) -> Class
 {
     match k {
         System::Mfc0 => plain(Destination::FieldRt),
-        System::Syscall => plain(Destination::Nowhere),
-        System::Break => plain(Destination::Nowhere),
-        System::Rfe => plain(Destination::Nowhere),
-        System::Mtc0 => plain(Destination::Nowhere),
-        System::Sync => plain(Destination::Nowhere),
+        System::Syscall | System::Break | System::Rfe | System::Mtc0 | System::Sync => {
+            plain(Destination::Nowhere)
+        }
     }
 }
 
@@ -167,9 +146,8 @@ pub fn class_of(k: Kind) -> Class
     ensures { result ≡ C.class_of k }
 {
     match k {
-        Kind::Alu(_) => plain(Destination::FieldRd),
+        Kind::Alu(_) | Kind::Shift(_) => plain(Destination::FieldRd),
         Kind::Immediate(_) => plain(Destination::FieldRt),
-        Kind::Shift(_) => plain(Destination::FieldRd),
         Kind::Multiply(x) => multiply_class(x),
         Kind::Access(x) => access_class(x),
         Kind::Branch(x) => branch_class(x),

@@ -1,8 +1,10 @@
 -- A state as 164 bytes, 41 little-endian words, and what of bytes refusal 17 refuses (document 01, Machine and Refusal table).
-use Rattle.std.specs.Prelude.{ℕ, zero, suc, ◌*◌, ◌/◌, ◌%◌, Bool, false, cond, ◌&&◌, List, [], ◌∷◌, ◌++◌, eqb, ltb, length, replicate}
+use Rattle.std.specs.Prelude.{ℕ, zero, suc, ◌*◌, ◌/◌, ◌%◌, Bool, cond, ◌&&◌, List, [], ◌∷◌, ◌++◌, eqb, ltb, length, Result, Ok, Err}
 use Rattle.word.specs.Bytes.{load_of}
+use Rattle.refusal.specs.declared.Refusal.{Refusal}
+use Rattle.refusal.specs.declared.Refusal.TheVariants as R
+use Rattle.effect.specs.declared.effect.Special.{Special}
 use Rattle.machine.specs.declared.state.State.{State}
-use Rattle.codec.specs.declared.decode.Decoded.{Decoded}
 
 -- ---- a state to bytes
 
@@ -21,13 +23,13 @@ abbrev pub bit_of : Bool → ℕ
 bit_of t = cond t 1 0
 
 -- HI, LO, PC, next PC, the LL bit, control registers 8, 12, 13 and 14
-abbrev pub others_of : State → List ℕ
-others_of s =
-    s.hi ∷ s.lo ∷ s.pc ∷ s.next_pc ∷ bit_of s.ll ∷ s.bad ∷ s.status ∷ s.cause ∷ s.epc ∷ []
+abbrev pub others_of : Special → List ℕ
+others_of c =
+    c.hi ∷ c.lo ∷ c.pc ∷ c.next_pc ∷ bit_of c.ll ∷ c.bad ∷ c.status ∷ c.cause ∷ c.epc ∷ []
 
 -- registers 0 to 31, then the others
 unfoldable pub words_of : State → List ℕ
-words_of s = s.registers ++ others_of s
+words_of s = s.registers ++ others_of s.special
 
 unfoldable pub bytes_of : State → List ℕ
 bytes_of s = flat_of (words_of s)
@@ -47,15 +49,18 @@ unfoldable pub state_of : List ℕ → State
 state_of b =
     record {
       registers = words_at 32 b;
-      hi = word_at b 32;
-      lo = word_at b 33;
-      pc = word_at b 34;
-      next_pc = word_at b 35;
-      ll = eqb (word_at b 36) 1;
-      bad = word_at b 37;
-      status = word_at b 38;
-      cause = word_at b 39;
-      epc = word_at b 40;
+      special =
+          record {
+            hi = word_at b 32;
+            lo = word_at b 33;
+            pc = word_at b 34;
+            next_pc = word_at b 35;
+            ll = eqb (word_at b 36) 1;
+            bad = word_at b 37;
+            status = word_at b 38;
+            cause = word_at b 39;
+            epc = word_at b 40;
+          };
     }
 
 -- 17's rules of bytes: they are 164, and the LL word is at most 1
@@ -64,27 +69,8 @@ is_state b = eqb (length b) 164 && ltb (word_at b 36) 2
 
 -- ---- what the two functions answer
 
--- what a refused decoding answers for a state
-abbrev pub blank : State
-blank =
-    record {
-      registers = replicate 32 0;
-      hi = 0;
-      lo = 0;
-      pc = 0;
-      next_pc = 0;
-      ll = false;
-      bad = 0;
-      status = 0;
-      cause = 0;
-      epc = 0;
-    }
-
-abbrev pub decoded : ℕ → State → Decoded
-decoded n s = record { number = n; state = s }
-
-unfoldable pub decoded_of : List ℕ → Decoded
-decoded_of b = cond (is_state b) (decoded 0 (state_of b)) (decoded 17 blank)
+unfoldable pub decoded_of : List ℕ → Result State Refusal
+decoded_of b = cond (is_state b) (Ok (state_of b)) (Err R.State)
 
 -- a number, and the bytes that are left
 pub record Encoded : Type 0 where

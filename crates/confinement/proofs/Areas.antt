@@ -6,8 +6,8 @@ use mathlib.Core.List.{List}
 use native.Mathlib.Nat.{mod_self}
 use native.Mathlib.Omega.{arith}
 use lib.Dec.{T, eqb, eqb→eq}
-use lib.Bits.{bit_and, bit_or, or_comm}
-use Rattle.word.proofs.Bits.{mask_le, mask_multiple, or_sum}
+use lib.Bits.{bit_and, bit_or, or_comm, and_le_r}
+use Rattle.word.proofs.Bits.{mask_multiple, or_sum}
 use Rattle.isa.specs.declared.kind.Instruction.{Instruction}
 use Rattle.class.specs.Class.{class_of}
 use Rattle.isa.proofs.Codes.{every_kind}
@@ -83,10 +83,10 @@ width_positive w4 = omega arith
 
 pub fits_mask : (l : Layout) (a : Area) (x : Instruction) → Uses a x → (v m : ℕ) → Fits l a x m → Fits l a x (bit_and v m)
 fits_mask l Data x u v m (o, (z, (p, (q, r)))) =
-    let h : bit_and v m ≤ m = mask_le v m in
+    let h : bit_and v m ≤ m = and_le_r v m in
     (o, (z, (mask_width (width_is x u) v m p, (q, omega arith))))
 fits_mask l Code x u v m (p, q) =
-    let h : bit_and v m ≤ m = mask_le v m in
+    let h : bit_and v m ≤ m = and_le_r v m in
     (mask_multiple 4 v m p, omega arith)
 
 pub fits_below : (l : Layout) (a : Area) (x : Instruction) → Uses a x → (d : ℕ) → Fits l a x d → d < size_of l a

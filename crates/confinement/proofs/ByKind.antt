@@ -34,7 +34,9 @@ use Rattle.class.specs.Class.{class_of, named}
 use Rattle.effect.specs.declared.effect.Special.{Special}
 use Rattle.effect.specs.declared.effect.Effect.{Effect}
 use Rattle.effect.specs.declared.effect.Effect.TheVariants.{Exit, Advance, Write, Pair, Jump, Link, LoadByte, LoadHalf, LoadWord, LoadLinked, StoreByte, StoreHalf, StoreWord, StoreLinked, Control, Return}
-use Rattle.effect.specs.Exit.{load_exit, store_exit}
+use Rattle.effect.specs.declared.exit.Exit as X
+use Rattle.effect.specs.declared.exit.Exit.TheVariants as E
+use Rattle.effect.specs.Exit.{number_of}
 use Rattle.arithmetic.specs.Arithmetic.{alu_of, immediate_of, shift_of, multiply_of, checked, product, divided}
 use Rattle.access.specs.Access.{access_of, address_of, reaches, load_if, store_if, conditional}
 use Rattle.branch.specs.Branch.{slot_of, relative_of, region_of, branch_of, branch_if, link_if, jump_if}
@@ -88,7 +90,7 @@ module _ (k : Kind) (i : Instruction) (a : ℕ) (c : Special) (n : ℕ) where
   Puts r = r ≡ named (class_of k).destination i
 
   abbrev pub Follows : Effect → Type 0
-  Follows (Exit e) = Leaves k i a c n e
+  Follows (Exit e) = Leaves k i a c n (number_of e)
   Follows Advance = On
   Follows (Write r v) = Puts r × On
   Follows (Pair h l) = On
@@ -141,22 +143,22 @@ module _ {k : Kind} {i : Instruction} {a : ℕ} {c : Special} {n : ℕ} where
   unfolding jump_if
   jumps r f = either (eqb (a % 4) 0) (λ _. f) (λ q. does (unaligned r q))
 
-  privileges : (e : ℕ) {x : Effect} → Not (Unbarred k i.value) → (is_user c.status ≡ false → Obeys k i a c n x) → Obeys k i a c n (privileged c.status e x)
+  privileges : (e : X.Exit) {x : Effect} → Not (Unbarred k i.value) → (is_user c.status ≡ false → Obeys k i a c n x) → Obeys k i a c n (privileged c.status e x)
   unfolding privileged
   privileges e u f = either (is_user c.status) (λ _. does (barred u)) f
 
-  misses : (w e : ℕ) → (class_of k).width ≡ w → T (ltb 0 w) → reaches w (address_of a i.value) n ≡ false → Obeys k i a c n (Exit e)
+  misses : (w : ℕ) (e : X.Exit) → (class_of k).width ≡ w → T (ltb 0 w) → reaches w (address_of a i.value) n ≡ false → Obeys k i a c n (Exit e)
   misses w e q t z =
       let u : reaches (class_of k).width (address_of a i.value) n ≡ false = rw q z in
       does (unreached (wide _ w q t) u)
 
   loads : (w : ℕ) {e : Effect} → (class_of k).width ≡ w → T (ltb 0 w) → Obeys k i a c n e → Obeys k i a c n (load_if (reaches w (address_of a i.value) n) e)
   unfolding load_if
-  loads w q t f = either _ (λ _. f) (misses w load_exit q t)
+  loads w q t f = either _ (λ _. f) (misses w E.Load q t)
 
   stores : (w : ℕ) {e : Effect} → (class_of k).width ≡ w → T (ltb 0 w) → Obeys k i a c n e → Obeys k i a c n (store_if (reaches w (address_of a i.value) n) e)
   unfolding store_if
-  stores w q t f = either _ (λ _. f) (misses w store_exit q t)
+  stores w q t f = either _ (λ _. f) (misses w E.Store q t)
 
 -- ---- the instructions
 

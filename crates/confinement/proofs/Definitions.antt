@@ -79,10 +79,10 @@ module _ (s : State) where
   pub special_kept : (r v : ℕ) → special_of (put_state (Register r v) s) ≡ special_of s
   special_kept r v = refl
 
-  pub hi_put : (v : ℕ) → ((put_state (Hi v) s).hi ≡ v) × (((put_state (Hi v) s).lo ≡ s.lo) × ((put_state (Hi v) s).registers ≡ s.registers))
+  pub hi_put : (v : ℕ) → ((put_state (Hi v) s).special.hi ≡ v) × (((put_state (Hi v) s).special.lo ≡ s.special.lo) × ((put_state (Hi v) s).registers ≡ s.registers))
   hi_put v = (refl, (refl, refl))
 
-  pub lo_put : (v : ℕ) → ((put_state (Lo v) s).lo ≡ v) × (((put_state (Lo v) s).hi ≡ s.hi) × ((put_state (Lo v) s).registers ≡ s.registers))
+  pub lo_put : (v : ℕ) → ((put_state (Lo v) s).special.lo ≡ v) × (((put_state (Lo v) s).special.hi ≡ s.special.hi) × ((put_state (Lo v) s).registers ≡ s.registers))
   lo_put v = (refl, (refl, refl))
 
 -- a byte goes to memory and leaves the state
@@ -104,7 +104,7 @@ allowed_says k = ors (eqs k 40) (ors (eqs k 46) (ors (eqs k 47) (eqs k 48)))
 
 module _ (l : Layout) (t : Machine) (c : Confined l t) where
   -- each of the four bytes that it fetches is code
-  pub confined_fetch : (k : ℕ) → k < 4 → (l.code_base ≤ t.state.pc + k) × (t.state.pc + k < l.code_base + l.code_size)
+  pub confined_fetch : (k : ℕ) → k < 4 → (l.code_base ≤ t.state.special.pc + k) × (t.state.special.pc + k < l.code_base + l.code_size)
   confined_fetch k h = (omega (arith, c.fetch.0), omega (arith, h, c.fetch.1))
 
   -- each byte that it loads or stores is data

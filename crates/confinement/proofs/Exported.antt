@@ -37,18 +37,18 @@ use Rattle.confinement.proofs.Hosts.{other_below, put_typed, put_memory}
 -- ---- a host's write, on the bytes of a state
 
 module _ (s : State) (n : length s.registers ≡ 32) where
-  put_register : (r v : ℕ) → r < 32 → store_of 4 (bytes_of s) (4 * r) v ≡ flat_of (set s.registers r v ++ others_of s)
+  put_register : (r v : ℕ) → r < 32 → store_of 4 (bytes_of s) (4 * r) v ≡ flat_of (set s.registers r v ++ others_of s.special)
   unfolding bytes_of words_of
   put_register r v h =
-      store_flat (s.registers ++ others_of s) r v
-      ∙ ap flat_of (set-append_left s.registers (others_of s) r v (omega arith))
+      store_flat (s.registers ++ others_of s.special) r v
+      ∙ ap flat_of (set-append_left s.registers (others_of s.special) r v (omega arith))
 
   -- past the registers
-  put_other : (j v : ℕ) → store_of 4 (bytes_of s) (4 * (32 + j)) v ≡ flat_of (s.registers ++ set (others_of s) j v)
+  put_other : (j v : ℕ) → store_of 4 (bytes_of s) (4 * (32 + j)) v ≡ flat_of (s.registers ++ set (others_of s.special) j v)
   unfolding bytes_of words_of
   put_other j v =
-      store_flat (s.registers ++ others_of s) (32 + j) v
-      ∙ ap flat_of (rw (← n) (set_append s.registers (others_of s) j v))
+      store_flat (s.registers ++ others_of s.special) (32 + j) v
+      ∙ ap flat_of (rw (← n) (set_append s.registers (others_of s.special) j v))
 
 module _ (l : Layout) where
   -- a word stored in the bytes is the word written in the state

@@ -68,8 +68,8 @@ module _ (l : Layout) where
         registers = set_every Word s.registers r v h t.registers;
         special = t.special;
       }
-  put_typed (Hi v) s e t = pair_typed s t v s.lo (ltb-true v (2 ^ 32) e) t.special.lo
-  put_typed (Lo v) s e t = pair_typed s t s.hi v t.special.hi (ltb-true v (2 ^ 32) e)
+  put_typed (Hi v) s e t = pair_typed s t v s.special.lo (ltb-true v (2 ^ 32) e) t.special.lo
+  put_typed (Lo v) s e t = pair_typed s t s.special.hi v t.special.hi (ltb-true v (2 ^ 32) e)
   put_typed (Byte a v) s e t = t
 
   pub put_memory : (x : Write) (m : List ℕ) → may_write l x ≡ true → Bytes m → Bytes (put_byte x m)
@@ -112,7 +112,7 @@ module _ (l : Layout) where
       }
 
 -- the program counters and the status are none of a host's
-pub put_counters : (x : Write) (s : State) → ((put_state x s).pc ≡ s.pc) × (((put_state x s).next_pc ≡ s.next_pc) × ((put_state x s).status ≡ s.status))
+pub put_counters : (x : Write) (s : State) → ((put_state x s).special.pc ≡ s.special.pc) × (((put_state x s).special.next_pc ≡ s.special.next_pc) × ((put_state x s).special.status ≡ s.special.status))
 put_counters (Register r v) s = (refl, (refl, refl))
 put_counters (Hi v) s = (refl, (refl, refl))
 put_counters (Lo v) s = (refl, (refl, refl))

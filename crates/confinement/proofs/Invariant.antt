@@ -6,8 +6,8 @@ use mathlib.Core.Logic.{⊎_elim, inl, inr}
 use mathlib.Core.List.{List}
 use native.Mathlib.Omega.{arith}
 use lib.ListN.{length}
+use Rattle.std.specs.Prelude.{Some}
 use Rattle.isa.specs.declared.kind.Instruction.{Instruction}
-use Rattle.isa.specs.declared.reading.Reading.TheVariants.{Legal}
 use Rattle.layout.specs.declared.Layout.{Layout}
 use Rattle.view.specs.View.{is_register}
 use Rattle.view.specs.Guard.{is_mask, is_merge}
@@ -45,8 +45,8 @@ pub data Way (l : Layout) (img : List ℕ) (i j : ℕ) : Type 0 where
 pub record At (l : Layout) (img : List ℕ) (s : State) : Type 0 where
   pub word : ℕ
   pub following : ℕ
-  pub counter : s.pc ≡ l.code_base + 4 * word
-  pub next_counter : s.next_pc ≡ l.code_base + 4 * following
+  pub counter : s.special.pc ≡ l.code_base + 4 * word
+  pub next_counter : s.special.next_pc ≡ l.code_base + 4 * following
   pub way : Way l img word following
   pub ready : Ready l img word s.registers
 
@@ -54,7 +54,7 @@ pub record At (l : Layout) (img : List ℕ) (s : State) : Type 0 where
 pub record Inside (l : Layout) (len : ℕ) (img : List ℕ) (s : State) (m : List ℕ) : Type 0 where
   pub valid : Valid s
   pub bytes : Bytes m
-  pub mode : is_user s.status ≡ true
+  pub mode : is_user s.special.status ≡ true
   pub data_register : register_of s.registers 26 ≡ l.data_base
   pub code_register : register_of s.registers 27 ≡ l.code_base
   pub long : length m ≡ len
@@ -67,7 +67,7 @@ way_in l img i j (branched h t) = h
 
 -- ---- words of the image
 
-legal_same : (x y : Instruction) → Legal x ≡ Legal y → x ≡ y
+legal_same : (x y : Instruction) → Some x ≡ Some y → x ≡ y
 legal_same x y e = cc
 
 pub stands_once : (img : List ℕ) (i : ℕ) (x y : Instruction) → Stands img i x → Stands img i y → x ≡ y

@@ -94,7 +94,7 @@ module _ (l : Layout) (len : ℕ) (img : List ℕ) (ok : Lawful l len img) where
         by (onward e h) = elim (dec_lt (i + 2) (words_in l)) [ yes g ↦ omega arith | no g ↦ absurd (jump (omega arith)) ]
         by (branched h e) = e.room
 
-    pub slot_is : j + 1 < words_in l → slot_of s.next_pc ≡ l.code_base + 4 * (j + 1)
+    pub slot_is : j + 1 < words_in l → slot_of s.special.next_pc ≡ l.code_base + 4 * (j + 1)
     unfolding slot_of
     slot_is h = omega (arith, v.position.next_counter, ok.r4.1, ok.r1)
 
@@ -104,7 +104,7 @@ module _ (l : Layout) (len : ℕ) (img : List ℕ) (ok : Lawful l len img) where
       counter : t ≡ l.code_base + 4 * word
       way : Way l img j word
 
-    falls : {t : ℕ} → is_region (flow_of x) ≡ false → is_register (flow_of x) ≡ false → t ≡ slot_of s.next_pc → Next t
+    falls : {t : ℕ} → is_region (flow_of x) ≡ false → is_register (flow_of x) ≡ false → t ≡ slot_of s.special.next_pc → Next t
     falls n r e = let h = room n r in record { word = j + 1; counter = e ∙ slot_is h; way = onward refl h }
 
     lands : (t : ℕ) → t % 4 ≡ 0 → Lands l img t → Next t
@@ -118,7 +118,7 @@ module _ (l : Layout) (len : ℕ) (img : List ℕ) (ok : Lawful l len img) where
           way = branched (j_in v.position.way) (record { room = omega arith; here = f; next = g });
         }
 
-    aligned : Aligned s.pc
+    aligned : Aligned s.special.pc
     aligned = v.valid.special.pc
 
     targets : ((flow_of x ≡ Relative) → Lands l img (relative_of (l.code_base + 4 * i) x.value)) × ((flow_of x ≡ Region) → Lands l img (region_of (l.code_base + 4 * i) x.value))
@@ -129,11 +129,11 @@ module _ (l : Layout) (len : ℕ) (img : List ℕ) (ok : Lawful l len img) where
     leads Relative e t (inl h) = falls (ap is_region e) (ap is_register e) h
     leads Relative e t (inr h) =
         subst Next (sym h)
-        (lands (relative_of s.pc x.value) (relative_aligned x.value aligned).1
+        (lands (relative_of s.special.pc x.value) (relative_aligned x.value aligned).1
         (subst (λ (c : ℕ). Lands l img (relative_of c x.value)) (sym v.position.counter) (targets.0 e)))
     leads Region e t h =
         subst Next (sym h)
-        (lands (region_of s.pc x.value) (region_aligned x.value aligned).1
+        (lands (region_of s.special.pc x.value) (region_aligned x.value aligned).1
         (subst (λ (c : ℕ). Lands l img (region_of c x.value)) (sym v.position.counter) (targets.1 e)))
     leads Register e t h =
         let g = leave l len img ok s m v e in
@@ -218,8 +218,8 @@ module _ (l : Layout) (len : ℕ) (img : List ℕ) (ok : Lawful l len img) where
       barred : Not (register_written x ≡ 26) × Not (register_written x ≡ 27)
       barred = ok.r10 i (in_code l len img ok s m v) x (stands_here l len img ok s m v)
 
-      next : Next after.next_pc
-      next = leads (flow_of x) refl after.next_pc moved.goes
+      next : Next after.special.next_pc
+      next = leads (flow_of x) refl after.special.next_pc moved.goes
 
       pub completed : Inside l len img after (step_of s m).machine.memory
       completed =

@@ -15,6 +15,7 @@ use Rattle.effect.specs.declared.effect.Effect.{Effect}
 use Rattle.effect.specs.declared.effect.Effect.TheVariants.{Exit, Advance, Write, Pair, Jump, Link, LoadByte, LoadHalf, LoadWord, LoadLinked, StoreByte, StoreHalf, StoreWord, StoreLinked, Control, Return}
 use Rattle.effect.specs.Sound.{Sound}
 use Rattle.effect.specs.Exit.{exit_of}
+use Rattle.effect.proofs.Exits.{number_range}
 use Rattle.system.specs.System.{is_user}
 use Rattle.machine.specs.declared.state.State.{State}
 use Rattle.machine.specs.State.{register_of, special_of}
@@ -41,12 +42,12 @@ module _ (l : List ℕ) (r v : ℕ) where
 -- ---- a step
 
 pub record Moved (k : Kind) (i : Instruction) (a : ℕ) (s t : State) : Type 0 where
-  pub counter : t.pc ≡ s.next_pc
-  pub goes : Goes k i a (special_of s) 0 t.next_pc
-  pub mode : t.status ≡ s.status
+  pub counter : t.special.pc ≡ s.special.next_pc
+  pub goes : Goes k i a (special_of s) 0 t.special.next_pc
+  pub mode : t.special.status ≡ s.special.status
   pub others : (r : ℕ) → Not (r ≡ named (class_of k).destination i) → register_of t.registers r ≡ register_of s.registers r
 
-module _ (k : Kind) (i : Instruction) (a : ℕ) (s : State) (m : List ℕ) (u : is_user s.status ≡ true) where
+module _ (k : Kind) (i : Instruction) (a : ℕ) (s : State) (m : List ℕ) (u : is_user s.special.status ≡ true) where
   abbrev Others : List ℕ → Type 0
   Others l = (q : ℕ) → Not (q ≡ named (class_of k).destination i) → register_of l q ≡ register_of s.registers q
 
@@ -56,11 +57,11 @@ module _ (k : Kind) (i : Instruction) (a : ℕ) (s : State) (m : List ℕ) (u : 
   stays : Others s.registers
   stays q h = refl
 
-  in_kernel : {P : Type 0} → is_user s.status ≡ false → P
+  in_kernel : {P : Type 0} → is_user s.special.status ≡ false → P
   in_kernel e = absurd (true≢false (sym u ∙ e))
 
   pub moves : {n at w : ℕ} (e : Effect) → Sound e n at w → Follows k i a (special_of s) n e → exit_of e ≡ 0 → Moved k i a s (apply_of e s m).state
-  moves (Exit e) x f z = let y : ⊥ = omega (arith, x.keeps.0, z) in absurd y
+  moves (Exit e) x f z = let y : ⊥ = omega (arith, (number_range e).0, z) in absurd y
   moves Advance x f z = record { counter = refl; goes = f; mode = refl; others = stays }
   moves (Write r v) x f z = record { counter = refl; goes = f.1; mode = refl; others = written r v f.0 }
   moves (Pair h l) x f z = record { counter = refl; goes = f; mode = refl; others = stays }

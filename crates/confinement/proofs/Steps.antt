@@ -10,11 +10,11 @@ use lib.Dec.{leb}
 use lib.IntN.{pos}
 use lib.ListN.{length}
 use borrow.Author.Tests.{eqb-false, le-leb, lt-leb, lt-ltb, le-ltb}
+use Rattle.std.specs.Prelude.{Some}
 use Rattle.word.specs.Number.{extend_of}
 use Rattle.word.specs.Bytes.{load_of}
 use Rattle.word.proofs.Memory.{load_lt}
 use Rattle.isa.specs.declared.kind.Instruction.{Instruction}
-use Rattle.isa.specs.declared.reading.Reading.TheVariants.{Legal}
 use Rattle.isa.specs.Reading.{read_of}
 use Rattle.isa.proofs.RoundTrip.{Operands, read_operands}
 use Rattle.effect.specs.declared.effect.Special.{Special}
@@ -98,22 +98,22 @@ module _ (l : Layout) (len : ℕ) (img : List ℕ) (ok : Lawful l len img) (s : 
   unfolding here
   stands_here = (ok.r8 i in_code).1
 
-  fetched : load_of 4 m s.pc ≡ load_of 4 img (4 * i)
+  fetched : load_of 4 m s.special.pc ≡ load_of 4 img (4 * i)
   unfolding code_of
   fetched =
       ap (load_of 4 m) v.position.counter
       ∙ sym (load_part m l.code_base l.code_size 4 (4 * i) (let h = in_code in omega arith))
       ∙ ap (λ (x : List ℕ). load_of 4 x (4 * i)) v.placed
 
-  reads : read_of (load_of 4 m s.pc) ≡ Legal here
+  reads : read_of (load_of 4 m s.special.pc) ≡ Some here
   reads = ap read_of fetched ∙ stands_here
 
   pub operands_here : Operands here
-  operands_here = read_operands (load_of 4 m s.pc) (load_lt 4 m s.pc v.bytes) here reads
+  operands_here = read_operands (load_of 4 m s.special.pc) (load_lt 4 m s.special.pc v.bytes) here reads
 
-  fetches : leb (s.pc + 4) (length m) ≡ true
+  fetches : leb (s.special.pc + 4) (length m) ≡ true
   fetches =
-      le-leb (s.pc + 4) (length m) (let h = in_code in omega (arith, v.position.counter, v.long, ok.r4.1))
+      le-leb (s.special.pc + 4) (length m) (let h = in_code in omega (arith, v.position.counter, v.long, ok.r4.1))
 
   pub effect_is : effect_at s m ≡ effect_of here s (length m)
   unfolding effect_at

@@ -155,9 +155,9 @@ module _ (l : Layout) (len : ℕ) (img : List ℕ) (ok : Lawful l len img) where
     abbrev there : Confined l (at s n)
     there = confined l len img ok s n v
 
-    same_fetch : load_of 4 m s.pc ≡ load_of 4 n s.pc
+    same_fetch : load_of 4 m s.special.pc ≡ load_of 4 n s.special.pc
     same_fetch =
-        load_same 4 m n s.pc
+        load_same 4 m n s.special.pc
         (λ i g f. (let e : l.code_base + (i - l.code_base) ≡ i = omega (arith, g, there.fetch.0) in
         subst (λ (x : ℕ). get_or m x 0 ≡ get_or n x 0) e (t.same_code (i - l.code_base) (omega (arith, f, g, there.fetch.0, there.fetch.1)))))
 

@@ -1,7 +1,8 @@
 -- Step, run and resume as a list makes them, on two levels: the methods of `State`, and the calls exported to C, whose state is bytes.
 use Rattle.std.specs.Prelude.{ℕ, ◌*◌, Bool, List, set}
 use Rattle.word.specs.Bytes.{store_of}
-use Rattle.effect.specs.Touched.{Cell, cell_of}
+use Rattle.effect.specs.declared.effect.Cell.{Cell}
+use Rattle.effect.specs.Touched.{cell_of}
 use Rattle.machine.specs.declared.state.State.{State}
 use Rattle.machine.specs.State.{special_of, join_of, refusal_of, Typed, Bytes}
 use Rattle.parts.specs.Parts.{pair_of}
@@ -59,8 +60,8 @@ ran_to r = reply (Ran r.number r.steps (cell_of r.touched)) r.machine.state r.ma
 
 abbrev pub put_state : Write → State → State
 put_state (Register r v) s = join_of (set s.registers r v) (special_of s)
-put_state (Hi v) s = join_of s.registers (pair_of (special_of s) v s.lo)
-put_state (Lo v) s = join_of s.registers (pair_of (special_of s) s.hi v)
+put_state (Hi v) s = join_of s.registers (pair_of (special_of s) v s.special.lo)
+put_state (Lo v) s = join_of s.registers (pair_of (special_of s) s.special.hi v)
 put_state (Byte a v) s = s
 
 abbrev pub methods : Calls State

@@ -1,11 +1,12 @@
 -- Demand 3 of the request, whole: `Demand3`, at the end, is the statement; proofs/Whole proves it for both levels of calls.
 use Rattle.std.specs.Prelude.{ℕ, ◌+◌, ◌≤◌, ◌≡◌, true, false, ◌⊎◌, List, map, length, get_or, take, drop}
-use Rattle.effect.specs.Touched.{Cell}
+use Rattle.effect.specs.declared.effect.Cell.{Cell}
 use Rattle.layout.specs.declared.Layout.{Layout}
 use Rattle.checker.specs.Check.{accepted, check_of, code_of}
 use Rattle.rules.specs.Not.{Not}
 use Rattle.checker.specs.Refusal.{All}
-use Rattle.effect.specs.Exit.{integer_overflow, system_call, breakpoint, trap}
+use Rattle.effect.specs.declared.exit.Exit.TheVariants as E
+use Rattle.effect.specs.Exit.{number_of}
 use Rattle.system.specs.System.{is_user}
 use Rattle.machine.specs.State.{register_of, Bytes}
 use Rattle.machine.specs.Apply.{Machine, Span, span}
@@ -24,16 +25,18 @@ InData l x = (x.width ≡ 0) ⊎ Within l.data_base l.data_size x
 
 -- the exits that demand 3 allows: 40, 46, 47 and 48
 abbrev pub Allowed : ℕ → Type 0
-Allowed k = (k ≡ integer_overflow) ⊎ ((k ≡ system_call) ⊎ ((k ≡ breakpoint) ⊎ (k ≡ trap)))
+Allowed k =
+    (k ≡ number_of E.IntegerOverflow)
+    ⊎ ((k ≡ number_of E.SystemCall) ⊎ ((k ≡ number_of E.Breakpoint) ⊎ (k ≡ number_of E.Trap)))
 
 -- ---- the start: a module's image placed unchanged in its code area, in user mode at its first word; all else is arbitrary
 pub record Start {S : Type 0} (c : Calls S) (l : Layout) (len : ℕ) (img : List ℕ) (w : Lent S) : Type 0 where
   pub placed : code_of l w.memory ≡ img
   pub length_told : length w.memory ≡ len
   pub not_17 : Not (c.refusal w.state len ≡ 17)
-  pub first_word : (c.view w.state).pc ≡ l.code_base
-  pub then_next : (c.view w.state).next_pc ≡ l.code_base + 4
-  pub user_mode : is_user (c.view w.state).status ≡ true
+  pub first_word : (c.view w.state).special.pc ≡ l.code_base
+  pub then_next : (c.view w.state).special.next_pc ≡ l.code_base + 4
+  pub user_mode : is_user (c.view w.state).special.status ≡ true
   pub register_0 : register_of (c.view w.state).registers 0 ≡ 0
   pub register_26 : register_of (c.view w.state).registers 26 ≡ l.data_base
   pub register_27 : register_of (c.view w.state).registers 27 ≡ l.code_base
@@ -45,7 +48,7 @@ pub record Start {S : Type 0} (c : Calls S) (l : Layout) (len : ℕ) (img : List
 
 -- a step tried fetches from the code, accesses the data area alone (an SC counts also where it does not store), and exits, if it does, as allowed
 pub record Confined (l : Layout) (t : Machine) : Type 0 where
-  pub fetch : Within l.code_base l.code_size (span t.state.pc 4)
+  pub fetch : Within l.code_base l.code_size (span t.state.special.pc 4)
   pub access : InData l (access_at t.state t.memory)
   pub exit : ((step_of t.state t.memory).number ≡ 0) ⊎ Allowed (step_of t.state t.memory).number
 

@@ -10,7 +10,7 @@ use lib.Dec.{leb, eqb}
 use lib.Bits.{and_lt, or_lt, xor_lt}
 use borrow.Author.Tests.{leb-true, eqb-true}
 use Rattle.word.specs.Number.{signed_of, fits_of}
-use Rattle.signed.proofs.Words.{product_below}
+use Rattle.std.proofs.lemmas.Nat.{mul-lt}
 use Rattle.word.proofs.Numbers.{wrap_below}
 use Rattle.class.specs.Class.{class_of}
 use Rattle.isa.proofs.RoundTrip.{Operands}
@@ -35,6 +35,7 @@ use Rattle.isa.specs.declared.kind.Kind.{Kind}
 use Rattle.isa.specs.declared.kind.Kind.TheVariants as K
 use Rattle.effect.specs.declared.effect.Special.{Special}
 use Rattle.word.proofs.Choice.{by_test, both}
+use Rattle.effect.specs.declared.exit.Exit as X
 use Rattle.effect.specs.declared.effect.Effect.{Effect}
 use Rattle.effect.specs.declared.effect.Effect.TheVariants.{Exit, Advance, Write, Pair, Jump, Link}
 use Rattle.arithmetic.specs.Arithmetic.{alu_of, immediate_of, shift_of, multiply_of, bit, checked, product, divided, shifted_left, shifted_right, shifted_signed}
@@ -52,8 +53,8 @@ module _ {n at w : ℕ} where
   pub either : (t : Bool) {x y : Effect} → (t ≡ true → Sound x n at w) → Sound y n at w → Sound (cond t x y) n at w
   either t p q = by_test (λ e. Sound e n at w) t p (λ _. q)
 
-  pub exits : (e : ℕ) → leb 40 e ≡ true → leb e 52 ≡ true → Sound (Exit e) n at w
-  exits e l h = record { keeps = (leb-true 40 e l, leb-true e 52 h) }
+  pub exits : (e : X.Exit) → Sound (Exit e) n at w
+  exits e = record { keeps = tt }
 
   advances : Sound Advance n at w
   advances = record { keeps = tt }
@@ -83,7 +84,7 @@ module _ {n at w r : ℕ} (h : Register r) where
 
   checks : (z : ℤ) → Sound (checked r z) n at w
   unfolding checked
-  checks z = either (fits_of 32 z) (λ _. writes h (wrap_below 32 z)) (exits 40 refl refl)
+  checks z = either (fits_of 32 z) (λ _. writes h (wrap_below 32 z)) (exits _)
 
 multiplies : {n at w : ℕ} (p : ℕ) → p < 2 ^ 64 → Sound (product p) n at w
 unfolding product
@@ -142,7 +143,7 @@ module _ {n at w rd a b : ℕ} (h : Register rd) (ha : Word a) (hb : Word b) whe
   module _ {hi lo : ℕ} (hh : Word hi) (hl : Word lo) where
     multiply_sound : (k : Multiply) → Sound (multiply_of k rd a b hi lo) n at w
     multiply_sound Mult = multiplies _ (wrap_below 64 (signed_of 32 a *ℤ signed_of 32 b))
-    multiply_sound Multu = multiplies _ (product_below a b ha hb)
+    multiply_sound Multu = multiplies _ (mul-lt a b (2 ^ 32) (2 ^ 32) ha hb)
     multiply_sound Div =
         divides b (wrap_below 32 (quot_z (signed_of 32 a) (signed_of 32 b))) (wrap_below 32 (rem_z (signed_of 32 a) (signed_of 32 b)))
     multiply_sound Divu = divides b (omega (arith, div-le_self a b)) (omega (arith, mod-le a b))
@@ -162,11 +163,11 @@ module _ {n : ℕ} where
   module _ {at w : ℕ} where
     loads : (t : Bool) (e : Effect) → (t ≡ true → Sound e n at w) → Sound (load_if t e) n at w
     unfolding load_if
-    loads t e p = either t p (exits 42 refl refl)
+    loads t e p = either t p (exits _)
 
     stores : (t : Bool) (e : Effect) → (t ≡ true → Sound e n at w) → Sound (store_if t e) n at w
     unfolding store_if
-    stores t e p = either t p (exits 43 refl refl)
+    stores t e p = either t p (exits _)
 
     conditional_sound : {rt : ℕ} → Register rt → (ll : Bool) (a b : ℕ) → Reach a 4 n at w → Sound (conditional ll rt a b) n at w
     unfolding conditional
@@ -202,7 +203,7 @@ module _ {n at w pc : ℕ} (hp : Aligned pc) where
 
   jumping : (t : ℕ) (e : Effect) → (t % 4 ≡ 0 → Sound e n at w) → Sound (jump_if t e) n at w
   unfolding jump_if
-  jumping t e p = either (eqb (t % 4) 0) (λ q. p (eqb-true (t % 4) 0 q)) (exits 41 refl refl)
+  jumping t e p = either (eqb (t % 4) 0) (λ q. p (eqb-true (t % 4) 0 q)) (exits _)
 
   module _ {rd a next : ℕ} (h : Register rd) (ha : Word a) (hn : Aligned next) where
     branch_sound : (k : Branch) (b v : ℕ) → Sound (branch_of k rd a b v pc next) n at w
@@ -223,7 +224,7 @@ module _ {n at w pc : ℕ} (hp : Aligned pc) where
 
 traps : {n at w : ℕ} (t : Bool) → Sound (trap_if t) n at w
 unfolding trap_if
-traps t = either t (λ _. exits 48 refl refl) advances
+traps t = either t (λ _. exits _) advances
 
 trap_sound : {n at w : ℕ} (k : Trap) (a b v : ℕ) → Sound (trap_of k a b v) n at w
 trap_sound Tge a b v = traps _
@@ -253,24 +254,24 @@ unfolding restored
 restored_below status = omega arith
 
 module _ {n at w rt b : ℕ} {s : Special} (h : Register rt) (hb : Word b) (r : Regular s) where
-  guarded : (e : ℕ) (x : Effect) → leb 40 e ≡ true → leb e 52 ≡ true → Sound x n at w → Sound (privileged s.status e x) n at w
+  guarded : (e : X.Exit) (x : Effect) → Sound x n at w → Sound (privileged s.status e x) n at w
   unfolding privileged
-  guarded e x l k p = either (is_user s.status) (λ _. exits e l k) p
+  guarded e x p = either (is_user s.status) (λ _. exits e) p
 
   calls : (v : ℕ) → Sound (system_call_of v s.status) n at w
   unfolding system_call_of
-  calls v = either (eqb v 15 && not (is_user s.status)) (λ _. exits 52 refl refl) (exits 46 refl refl)
+  calls v = either (eqb v 15 && not (is_user s.status)) (λ _. exits _) (exits _)
 
   breaks : (v : ℕ) → Sound (breakpoint_of v) n at w
   unfolding breakpoint_of
-  breaks v = either (eqb v 15) (λ _. exits 51 refl refl) (exits 47 refl refl)
+  breaks v = either (eqb v 15) (λ _. exits _) (exits _)
 
   system_sound : (k : System) (rd v : ℕ) → Sound (system_of k rt rd b v s) n at w
   system_sound Syscall rd v = calls v
   system_sound Break rd v = breaks v
-  system_sound Rfe rd v = guarded _ _ refl refl (record { keeps = restored_below s.status })
-  system_sound Mfc0 rd v = guarded _ _ refl refl (writes h (control_below r rd))
-  system_sound Mtc0 rd v = guarded _ _ refl refl (record { keeps = hb })
+  system_sound Rfe rd v = guarded _ _ (record { keeps = restored_below s.status })
+  system_sound Mfc0 rd v = guarded _ _ (writes h (control_below r rd))
+  system_sound Mtc0 rd v = guarded _ _ (record { keeps = hb })
   system_sound Sync rd v = advances
 
 -- ---- every instruction

@@ -1,4 +1,5 @@
-// The effect of an instruction. a is GPR[rs], b is GPR[rt], n the memory's length.
+// The effect of an instruction. a is GPR[rs], b is GPR[rt], n the memory's length. Each group is handed what its instructions look at and no more, so that
+// its head says what they depend on: a struct of all that they share would not.
 #![tactic(auto)]
 
 ghost use Rattle.std.specs.Prelude.{◌≡◌};
@@ -7,6 +8,7 @@ ghost use Rattle.decision.specs.Decision.{decision_of};
 use effect::effect::{Effect, Special};
 use isa::kind::{Instruction, Kind};
 
+#[tactic(auto, unfolding(crate::specs::Decision::decision_of))]
 pub fn decide(i: Instruction, a: u32, b: u32, s: Special, n: usize) -> Effect
     ensures { result ≡ decision_of i a b s n }
 {

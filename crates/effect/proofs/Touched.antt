@@ -1,14 +1,13 @@
--- The last of accesses in turn, and an access held in two words.
-use Prim.Native.Nat.{ℕ, ◌+◌, ◌*◌, ◌/◌, ◌%◌}
-use mathlib.Core.Path.{◌≡◌, refl, sym, ap, subst, ◌∙◌}
+-- The last of accesses in turn, and their widths.
+use Prim.Native.Nat.{ℕ}
+use mathlib.Core.Path.{◌≡◌, refl}
 use mathlib.Core.Logic.{⊎_elim, ◌⊎◌, inl, inr}
 use native.Mathlib.Omega.{arith}
-use borrow.Author.Tests.{eq-eqb, ne_eqb}
 use Rattle.effect.specs.declared.effect.Effect.{Effect}
 use Rattle.effect.specs.declared.effect.Effect.TheVariants.{Exit, Advance, Write, Pair, Jump, Link, LoadByte, LoadHalf, LoadWord, LoadLinked, StoreByte, StoreHalf, StoreWord, StoreLinked, Control, Return}
 use Rattle.effect.specs.declared.effect.Touched.{Touched}
 use Rattle.effect.specs.declared.effect.Touched.TheVariants.{Nothing, Load, Store}
-use Rattle.effect.specs.Touched.{touched_of, last_of, cell, cell_of, Held, InWords, touched_in}
+use Rattle.effect.specs.Touched.{touched_of, last_of}
 
 -- none before
 pub last_first : (t : Touched) → last_of Nothing t ≡ t
@@ -64,34 +63,3 @@ pub last_wide : (x y : Touched) → Wide x → Wide y → Wide (last_of x y)
 last_wide x Nothing p q = p
 last_wide x (Load a w) p q = q
 last_wide x (Store a w) p q = q
-
--- two words hold one access
-pub held_is : (a c : ℕ) (t : Touched) → Wide t → Held a c t → touched_in a c ≡ t
-unfolding touched_in
-held_is a c Nothing p (x, y) = rw y
-held_is a c (Load b w) p (x, y) =
-    let e : c ≡ 2 * w + 0 = y in
-    let d : c / 2 ≡ w = omega (arith, e) in
-    rw (ne_eqb c 0 (λ z. width_some w p (omega (arith, e, z))), eq-eqb (c % 2) 0 (omega (arith, e)), d, x)
-held_is a c (Store b w) p (x, y) =
-    let e : c ≡ 2 * w + 1 = y in
-    let d : c / 2 ≡ w = omega (arith, e) in
-    rw (ne_eqb c 0 (λ z. omega (arith, e, z)), ne_eqb (c % 2) 0 (λ z. omega (arith, e, z)), d, x)
-
--- x from the words again, where its access is known to have a width
-pub held_as : {A : Type 0} (f : Touched → A) (touched : A → Touched) → ((t : Touched) → touched (f t) ≡ t) → (a c : ℕ) (x : A) → InWords f a c x → Wide (touched x) → f (touched_in a c) ≡ x
-held_as f touched same a c x (t, (e, h)) w = ap f (held_is a c t (subst Wide (ap touched (sym e) ∙ same t) w) h) ∙ e
-
--- and one cell
-pub held_cell : (a c : ℕ) (t : Touched) → Held a c t → cell a (c / 2) (c % 2) ≡ cell_of t
-held_cell a c Nothing (x, y) = rw (y, x)
-held_cell a c (Load b w) (x, y) =
-    let e : c ≡ 2 * w + 0 = y in
-    let d : c / 2 ≡ w = omega (arith, e) in
-    let r : c % 2 ≡ 0 = omega (arith, e) in
-    rw (d, r, x)
-held_cell a c (Store b w) (x, y) =
-    let e : c ≡ 2 * w + 1 = y in
-    let d : c / 2 ≡ w = omega (arith, e) in
-    let r : c % 2 ≡ 1 = omega (arith, e) in
-    rw (d, r, x)

@@ -21,7 +21,7 @@ pub record Reach (a w n at width : ℕ) : Type 0 where
   pub same_width : w ≡ width
 
 abbrev pub Keeps : Effect → ℕ → ℕ → ℕ → Type 0
-Keeps (Exit e) n at width = (40 ≤ e) × (e ≤ 52)
+Keeps (Exit e) n at width = Unit {0}
 Keeps Advance n at width = Unit {0}
 Keeps (Write r v) n at width = Register r × Word v
 Keeps (Pair h l) n at width = Word h × Word l

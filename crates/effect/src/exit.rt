@@ -1,55 +1,54 @@
-// The numbers of the exits (document 01, Machine), and that of an effect.
+// The exits, each by its number (document 01, Machine), and that of an effect.
 ghost use Rattle.std.specs.Prelude.{◌≡◌};
-ghost use Rattle.effect.specs.Exit.{exit_of};
+ghost use Rattle.effect.specs.Exit.{exit_of, exit_number};
 
 use crate::effect::Effect;
 
-pub const INTEGER_OVERFLOW: u32 = 40;
+#[derive(Clone, Copy, PartialEq, Eq)]
+pub enum Exit {
+    IntegerOverflow = 40,
+    // A jump to an address that is no multiple of four.
+    Address = 41,
+    Load = 42,
+    Store = 43,
+    PrivilegedData = 44,
+    PrivilegedInstruction = 45,
+    SystemCall = 46,
+    Breakpoint = 47,
+    Trap = 48,
+    NoInstruction = 49,
+    Fetch = 50,
+    // BREAK with code 15.
+    DebugBreak = 51,
+    // SYSCALL with code 15 in kernel mode.
+    StopCores = 52,
+}
 
-pub const ADDRESS: u32 = 41;
+impl From<Exit> for u32 {
+    ghost use Rattle.effect.specs.Exit.{IsNumberOf};
 
-pub const LOAD: u32 = 42;
+    ghost from_gives = { IsNumberOf };
 
-pub const STORE: u32 = 43;
+    fn from(e: Exit) -> u32 {
+        e as u32
+    }
+}
 
-pub const PRIVILEGED_DATA: u32 = 44;
-
-pub const PRIVILEGED_INSTRUCTION: u32 = 45;
-
-pub const SYSTEM_CALL: u32 = 46;
-
-pub const BREAKPOINT: u32 = 47;
-
-pub const TRAP: u32 = 48;
-
-pub const NO_INSTRUCTION: u32 = 49;
-
-pub const FETCH: u32 = 50;
-// BREAK with code 15.
-pub const DEBUG_BREAK: u32 = 51;
-// SYSCALL with code 15 in kernel mode.
-pub const STOP_CORES: u32 = 52;
-
-// The exit's number; 0 where the step completes.
-pub fn exit_of(e: Effect) -> u32
-    ensures { result ≡ exit_of e }
+// 0 where there is no exit.
+pub fn number(exit: Option<Exit>) -> u32
+    ensures { result ≡ exit_number exit }
 {
-    match e {
-        Effect::Exit(n) => n,
-        Effect::Advance => 0,
-        Effect::Write(_, _) => 0,
-        Effect::Pair(_, _) => 0,
-        Effect::Jump(_) => 0,
-        Effect::Link(_, _, _) => 0,
-        Effect::LoadByte(_, _, _) => 0,
-        Effect::LoadHalf(_, _, _) => 0,
-        Effect::LoadWord(_, _) => 0,
-        Effect::LoadLinked(_, _) => 0,
-        Effect::StoreByte(_, _) => 0,
-        Effect::StoreHalf(_, _) => 0,
-        Effect::StoreWord(_, _) => 0,
-        Effect::StoreLinked(_, _, _) => 0,
-        Effect::Control(_, _) => 0,
-        Effect::Return(_) => 0,
+    exit.map_or(0, u32::from)
+}
+
+impl Effect {
+    // None where the step completes.
+    pub fn exit(self) -> Option<Exit>
+        ensures { exit_number result ≡ exit_of self }
+    {
+        match self {
+            Effect::Exit(e) => Some(e),
+            _ => None,
+        }
     }
 }

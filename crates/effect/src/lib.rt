@@ -1,4 +1,4 @@
-// What a step can do, and the numbers of the exits.
+// What a step can do, and the exits.
 #![tactic(auto)]
 
 pub mod effect;

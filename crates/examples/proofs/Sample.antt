@@ -17,7 +17,8 @@ use Rattle.effect.specs.declared.effect.Effect.TheVariants.{Exit}
 use Rattle.effect.specs.declared.effect.Touched.{Touched}
 use Rattle.effect.specs.declared.effect.Touched.TheVariants.{Nothing, Store}
 use Rattle.effect.specs.Touched.{touched_of, cell, cell_of}
-use Rattle.effect.specs.Exit.{fetch_outside, exit_of}
+use Rattle.effect.specs.declared.exit.Exit.TheVariants as E
+use Rattle.effect.specs.Exit.{exit_of}
 use Rattle.access.specs.Access.{address_of, reaches, store_if}
 use Rattle.arithmetic.specs.Arithmetic.{checked}
 use Rattle.branch.specs.Branch.{slot_of, region_of}
@@ -81,7 +82,7 @@ load_code m c n i h =
 -- ---- one step
 
 abbrev effect_for : State → ℕ → ℕ → Effect
-effect_for s n w = cond (leb (s.pc + 4) n) (read_effect (read_of w) s n) (Exit fetch_outside)
+effect_for s n w = cond (leb (s.special.pc + 4) n) (read_effect (read_of w) s n) (Exit E.Fetch)
 
 -- the step of word w, with n bytes of memory
 abbrev step_for : State → List ℕ → ℕ → ℕ → Outcome
@@ -90,7 +91,7 @@ step_for s m n w =
     (record { number = exit_of (effect_for s n w); touched = touched_of (effect_for s n w); machine = apply_of (effect_for s n w) s m })
     (outcome (refusal_of s n) s m)
 
-step_for_law : (s : State) (m : List ℕ) (n w : ℕ) → length m ≡ n → load_of 4 m s.pc ≡ w → step_of s m ≡ step_for s m n w
+step_for_law : (s : State) (m : List ℕ) (n w : ℕ) → length m ≡ n → load_of 4 m s.special.pc ≡ w → step_of s m ≡ step_for s m n w
 unfolding effect_at try_of step_of
 step_for_law s m n w e f = rw (e, f)
 
@@ -275,8 +276,8 @@ holds_sample = record { long = sample_starts.length_told; placed = sample_starts
 pub sample_list : map (shown_of layout_m) (list_of methods layout_m sample_events sample_lent) ≡ sample_replies
 sample_list = ap (map (shown_of layout_m)) (all_reply (does_all sample_memory holds_sample)) ∙ shown_all sample_memory holds_sample
 
-pub sample_tried_law : map (λ (t : Machine). t.state.pc) (list_tries methods layout_m sample_events sample_lent) ≡ sample_tried
-sample_tried_law = ap (map (λ (t : Machine). t.state.pc)) (all_try (does_all sample_memory holds_sample))
+pub sample_tried_law : map (λ (t : Machine). t.state.special.pc) (list_tries methods layout_m sample_events sample_lent) ≡ sample_tried
+sample_tried_law = ap (map (λ (t : Machine). t.state.special.pc)) (all_try (does_all sample_memory holds_sample))
 
 -- ---- what demand 3 says of it
 

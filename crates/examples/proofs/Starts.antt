@@ -58,10 +58,10 @@ module _ (a : ℕ) (img : List ℕ) (b : ℕ) where
 
 -- ---- words of 32 bits
 
-pub typed : (s : State) → length s.registers ≡ 32 → all_below (2 ^ 32) s.registers ≡ true → all_below (2 ^ 32) (others_of s) ≡ true
+pub typed : (s : State) → length s.registers ≡ 32 → all_below (2 ^ 32) s.registers ≡ true → all_below (2 ^ 32) (others_of s.special) ≡ true
     → Typed s
 typed s n e f =
-    let other = all_below_law (2 ^ 32) (omega arith) (others_of s) f in
+    let other = all_below_law (2 ^ 32) (omega arith) (others_of s.special) f in
     record {
       count = n;
       registers = all_below_law (2 ^ 32) (omega arith) s.registers e;
@@ -100,15 +100,15 @@ facts_of l len w =
       code = code_of l w.memory;
       told = length w.memory;
       refusal = refusal_of w.state len;
-      pc = w.state.pc;
-      next_pc = w.state.next_pc;
-      user = is_user w.state.status;
+      pc = w.state.special.pc;
+      next_pc = w.state.special.next_pc;
+      user = is_user w.state.special.status;
       register_0 = register_of w.state.registers 0;
       register_26 = register_of w.state.registers 26;
       register_27 = register_of w.state.registers 27;
       count = length w.state.registers;
       words = all_below (2 ^ 32) w.state.registers;
-      others = all_below (2 ^ 32) (others_of w.state);
+      others = all_below (2 ^ 32) (others_of w.state.special);
       bytes = all_below (2 ^ 8) w.memory;
     }
 

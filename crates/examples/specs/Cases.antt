@@ -41,8 +41,8 @@ completed o f = cond (eqb o.number 0) (f o.machine.state) (Ends o.number)
 
 abbrev pub found : Question → Finding
 found (Result w a b) = completed (step_at 0 w a b) (λ s. Gives (register_of s.registers 3))
-found (Pair w a b) = completed (step_at 0 w a b) (λ s. HiLo s.hi s.lo)
-found (Target w pc) = completed (step_at pc w 0 0) (λ s. Leads s.next_pc)
+found (Pair w a b) = completed (step_at 0 w a b) (λ s. HiLo s.special.hi s.special.lo)
+found (Target w pc) = completed (step_at pc w 0 0) (λ s. Leads s.special.next_pc)
 found (Check e) = Says (E.said_of e)
 
 -- ---- the table

@@ -22,7 +22,7 @@ abbrev pub is_within : ℕ → ℕ → Span → Bool
 is_within base size x = leb base x.at && leb (x.at + x.width) (base + size)
 
 abbrev pub fetch_inside : Layout → Machine → Bool
-fetch_inside l t = is_within l.code_base l.code_size (span t.state.pc 4)
+fetch_inside l t = is_within l.code_base l.code_size (span t.state.special.pc 4)
 
 abbrev pub access_inside : Layout → Machine → Bool
 access_inside l t =
@@ -52,7 +52,7 @@ escape_at l t =
     (cond (access_inside l t)
     (Exits (step_of t.state t.memory).number)
     (AccessesAt (access_at t.state t.memory).at (access_at t.state t.memory).width))
-    (FetchesAt t.state.pc)
+    (FetchesAt t.state.special.pc)
 
 -- in the first step that is not confined
 abbrev pub first_escape : Layout → List Machine → Escape

@@ -22,7 +22,7 @@ abbrev pub shown : Answer → ℕ → ℕ → Shown
 shown a p w = record { answer = a; pc = p; first_word = w }
 
 abbrev pub shown_of : Layout → Reply State → Shown
-shown_of l r = shown r.answer r.left.state.pc (load_of 4 r.left.memory l.data_base)
+shown_of l r = shown r.answer r.left.state.special.pc (load_of 4 r.left.memory l.data_base)
 
 -- ---- module M
 

@@ -6,13 +6,12 @@ use Prim.Native.Nat.{ℕ, ◌+◌, ◌*◌}
 use native.Mathlib.Omega.{arith}
 use lib.Dec.{T, eqb, eqb→eq, T_not}
 use borrow.Author.Tests.{eq-eqb, ne_eqb, eqb-true, eqb-false}
+use Rattle.std.specs.Prelude.{Option, Some, None}
 use Rattle.word.specs.declared.field.Fields.{Fields}
 use Rattle.isa.specs.declared.kind.Kind.{Kind}
 use Rattle.isa.specs.declared.kind.Instruction.{Instruction}
 use Rattle.isa.specs.declared.format.Format.{Format}
 use Rattle.isa.specs.declared.format.Format.TheVariants.{ThreeRegisters, ShiftAmount, TwoSources, OneSource, OneTarget, SourceTarget, SystemCode, Barrier, TrapCode, Condition, JumpIndex, Constant, BranchZero, UpperConstant, ControlMove, ExceptionReturn}
-use Rattle.isa.specs.declared.reading.Reading.{Reading}
-use Rattle.isa.specs.declared.reading.Reading.TheVariants.{Legal, NoInstruction}
 use Rattle.isa.specs.Table.{row_of, instructions}
 use Rattle.isa.specs.Drawing.{drawing_of}
 use Rattle.isa.specs.Reading.{decode_of, drawing_for, fits_kind, read_as, read_from, read_fields}
@@ -101,7 +100,7 @@ not_so true h = absurd (h tt)
 not_so false h = refl
 
 -- no kind of the list fits fields that lead elsewhere
-absent : (ks : List Kind) (f : Fields) → T (fresh (key_in f) ks) → read_from ks f ≡ NoInstruction
+absent : (ks : List Kind) (f : Fields) → T (fresh (key_in f) ks) → read_from ks f ≡ None
 absent [] f t = refl
 absent (k ∷ ks) f t =
     let h = both (not (eqb (key_of k) (key_in f))) (fresh (key_in f) ks) t in
@@ -109,9 +108,9 @@ absent (k ∷ ks) f t =
     λ s. T_not (eqb (key_of k) (key_in f)) h.0 (subst T (sym (eq-eqb (key_of k) (key_in f) (sym (fits_key k f s)))) tt) in
     rw (not_so (fits_kind k f) away) (absent ks f h.1)
 
-abbrev read_found : Found → Fields → Reading
+abbrev read_found : Found → Fields → Option Instruction
 read_found (found k) f = read_as k f
-read_found nothing f = NoInstruction
+read_found nothing f = None
 
 by_lookup : (ks : List Kind) (f : Fields) → T (distinct ks) → read_from ks f ≡ read_found (lookup ks (key_in f)) f
 unfolding read_as
@@ -123,7 +122,7 @@ by_lookup (k ∷ ks) f t =
         → read_from (k ∷ ks) f ≡ read_found (cond b (found k) (lookup ks (key_in f))) f
     at_head true e later =
         let lead : key_of k ≡ key_in f = eqb-true (key_of k) (key_in f) e in
-        let none : read_from ks f ≡ NoInstruction =
+        let none : read_from ks f ≡ None =
         absent ks f (subst (λ (x : ℕ). T (fresh x ks)) lead (both (fresh (key_of k) ks) (distinct ks) t).0) in
         rw (none)
     at_head false e later =
@@ -137,12 +136,12 @@ module _ (f : Fields) where
   read_found_law k e = by_lookup instructions f distinct_keys ∙ rw (e, found_self k)
 
   -- fields that lead to none are no instruction
-  pub read_nothing : lookup instructions (key_in f) ≡ nothing → read_fields f ≡ NoInstruction
+  pub read_nothing : lookup instructions (key_in f) ≡ nothing → read_fields f ≡ None
   unfolding read_fields
   read_nothing e = by_lookup instructions f distinct_keys ∙ rw (e)
 
   -- fields that fit a kind are read as that kind
-  pub read_fits : (k : Kind) → T (fits_kind k f) → read_fields f ≡ Legal (decode_of k (drawing_for k) f)
+  pub read_fits : (k : Kind) → T (fits_kind k f) → read_fields f ≡ Some (decode_of k (drawing_for k) f)
   unfolding read_as
   read_fits k t = read_found_law k (fits_key k f t) ∙ rw (is_true (fits_kind k f) t)
 
@@ -153,15 +152,15 @@ pub record Came (f : Fields) (i : Instruction) : Type 0 where
   pub fit : T (fits_kind kind f)
   pub same : decode_of kind (drawing_for kind) f ≡ i
 
-came_from : (ks : List Kind) (f : Fields) (i : Instruction) → read_from ks f ≡ Legal i → Came f i
+came_from : (ks : List Kind) (f : Fields) (i : Instruction) → read_from ks f ≡ Some i → Came f i
 came_from [] f i e = absurd (let z : ◌≡◌ {A = ℕ} 0 1 = cc in omega arith)
 came_from (k ∷ ks) f i e = at_head (fits_kind k f) refl e (came_from ks f i)
   where
-    at_head : (b : Bool) → fits_kind k f ≡ b → cond b (Legal (decode_of k (drawing_for k) f)) (read_from ks f) ≡ Legal i
-        → (read_from ks f ≡ Legal i → Came f i) → Came f i
+    at_head : (b : Bool) → fits_kind k f ≡ b → cond b (Some (decode_of k (drawing_for k) f)) (read_from ks f) ≡ Some i
+        → (read_from ks f ≡ Some i → Came f i) → Came f i
     at_head true h p later = record { kind = k; fit = subst T (sym h) tt; same = cc }
     at_head false h p later = later p
 
-pub came : (f : Fields) (i : Instruction) → read_fields f ≡ Legal i → Came f i
+pub came : (f : Fields) (i : Instruction) → read_fields f ≡ Some i → Came f i
 unfolding read_fields
 came f i e = came_from instructions f i e

@@ -3,12 +3,12 @@ use mathlib.Core.Path.{◌≡◌, refl, ap, sym, ◌∙◌, subst}
 use mathlib.Core.Bool.{Bool, true, false, ◌&&◌}
 use Prim.Native.Nat.{ℕ}
 use lib.Dec.{T, eqb}
+use Rattle.std.specs.Prelude.{Some, None}
 use Rattle.word.specs.declared.field.Fields.{Fields}
 use Rattle.word.specs.Field.{join_of, Fit}
 use Rattle.isa.specs.declared.kind.Instruction.{Instruction}
 use Rattle.isa.specs.declared.format.Shape.{Shape}
 use Rattle.isa.specs.declared.format.Drawing.{Drawing}
-use Rattle.isa.specs.declared.writing.Written.TheVariants.{Word, Refused}
 use Rattle.isa.specs.Table.{row_of, shape_in}
 use Rattle.isa.specs.Drawing.{drawing_of}
 use Rattle.isa.specs.Reading.{drawing_for}
@@ -51,10 +51,10 @@ module _ (i : Instruction) {d : Drawing} {n : ℕ} {f : Fields} {b : Bool}
       rw (found_fields)
       (encode_fit (drawing_for i.kind) (row_of i.kind).code i (drawing_sound i.kind) (legals (drawing_for i.kind) i (subst T (sym t ∙ found_legal) tt)))
 
-  pub written : {w : ℕ} → b ≡ true → w ≡ join_of f → Word w ≡ write_of i
+  pub written : {w : ℕ} → b ≡ true → w ≡ join_of f → Some w ≡ write_of i
   unfolding write_of
   written t e = rw (e, found_fields, ← found_legal, t)
 
-  pub refused : b ≡ false → Refused ≡ write_of i
+  pub refused : b ≡ false → None ≡ write_of i
   unfolding write_of
   refused t = rw (← found_legal, t)

@@ -5,12 +5,12 @@ use Prim.Native.Nat.{ℕ, ◌+◌, ◌*◌, ◌^◌}
 use native.Mathlib.Omega.{arith}
 use lib.Dec.{T, eqb}
 use borrow.Author.Tests.{eq-eqb}
+use Rattle.std.specs.Prelude.{Option}
 use Rattle.word.specs.declared.field.Fields.{Fields}
 use Rattle.isa.specs.declared.kind.Kind.{Kind}
 use Rattle.isa.specs.declared.kind.Instruction.{Instruction}
 use Rattle.isa.specs.declared.format.Format.{Format}
 use Rattle.isa.specs.declared.format.Format.TheVariants.{ThreeRegisters, ShiftAmount, TwoSources, OneSource, OneTarget, SourceTarget, SystemCode, Barrier, TrapCode, Condition, JumpIndex, Constant, BranchZero, UpperConstant, ControlMove, ExceptionReturn}
-use Rattle.isa.specs.declared.reading.Reading.{Reading}
 use Rattle.isa.specs.Table.{row_of}
 use Rattle.isa.specs.Drawing.{drawing_of}
 use Rattle.isa.specs.Reading.{is_control, operand, fits, value_of, made, decode_of, legal_if, read_as}
@@ -32,14 +32,14 @@ module _ (k : Kind) (f : Fields) (t : Format) (e : (row_of k).format ≡ t) wher
   same_test false to from = sym (not_so (fits (drawing_of t) (row_of k).code f) (λ s. from (matched (drawing_of t) (row_of k).code f s)))
 
   -- b is the test, v the value, i the instruction, r what is answered
-  read_in : (b : Bool) (v : ℕ) {i : Instruction} {r : Reading}
+  read_in : (b : Bool) (v : ℕ) {i : Instruction} {r : Option Instruction}
       → (T b → Matched (drawing_of t) (row_of k).code f) → (Matched (drawing_of t) (row_of k).code f → T b) → v ≡ value_of (drawing_of t) f
       → i ≡ made k (operand (drawing_of t).rs f.rs) (operand (drawing_of t).rt f.rt) (operand (drawing_of t).rd f.rd) (operand (drawing_of t).shift f.shift) v
       → r ≡ legal_if b i → r ≡ read_as k f
   unfolding read_as decode_of
   read_in b v to from p q s = rw (s, q, p, e, same_test b to from)
 
-module _ (k : Kind) (f : Fields) {i : Instruction} {r : Reading} where
+module _ (k : Kind) (f : Fields) {i : Instruction} {r : Option Instruction} where
   pub three_registers : (row_of k).format ≡ ThreeRegisters → f.op ≡ 0 → f.funct ≡ (row_of k).code
       → i ≡ made k f.rs f.rt f.rd 0 0 → r ≡ legal_if (eqb f.shift 0) i → r ≡ read_as k f
   three_registers e p q x y =

@@ -7,3 +7,4 @@ pub mod Members
 pub mod Formats
 pub mod RoundTrip
 pub mod Encoding
+pub mod Numbers

@@ -4,6 +4,7 @@ use mathlib.Core.Bool.{Bool, true, false, cond}
 use Prim.Native.Nat.{ℕ, ◌^◌, ◌<◌}
 use native.Mathlib.Omega.{arith}
 use lib.Dec.{T}
+use Rattle.std.specs.Prelude.{Some, None}
 use Rattle.word.specs.declared.field.Fields.{Fields}
 use Rattle.word.specs.Field.{cut_of, join_of, Fit}
 use Rattle.word.proofs.Fields.{join_cut, cut_join, cut_fit}
@@ -11,8 +12,6 @@ use Rattle.isa.specs.declared.kind.Kind.{Kind}
 use Rattle.isa.specs.declared.kind.Instruction.{Instruction}
 use Rattle.isa.specs.declared.format.Role.{Role}
 use Rattle.isa.specs.declared.format.Drawing.{Drawing}
-use Rattle.isa.specs.declared.reading.Reading.TheVariants.{Legal}
-use Rattle.isa.specs.declared.writing.Written.TheVariants.{Word, Refused}
 use Rattle.isa.specs.Table.{row_of}
 use Rattle.isa.specs.Reading.{operand, append, value_of, decode_of, drawing_for, fits_kind, read_fields, read_of}
 use Rattle.isa.specs.Writing.{field_of, rest, rest_funct, rest_shift, rest_rd, rest_rt, rest_rs, encode_of, legal, write_of}
@@ -109,23 +108,23 @@ module _ (d : Drawing) (n : ℕ) (i : Instruction) (z : Sound d n) (g : Legals d
 
 -- ---- the theorems
 
-written_back : (k : Kind) (f : Fields) → Fit f → T (fits_kind k f) → write_of (decode_of k (drawing_for k) f) ≡ Word (join_of f)
+written_back : (k : Kind) (f : Fields) → Fit f → T (fits_kind k f) → write_of (decode_of k (drawing_for k) f) ≡ Some (join_of f)
 unfolding write_of decode_of
 written_back k f h t =
     let d : Drawing = drawing_for k in
     let m : Matched d (row_of k).code f = matched d (row_of k).code f t in
     let z : Sound d (row_of k).code = drawing_sound k in
-    ap (λ (b : Bool). cond b (Word (join_of (encode_of d (row_of k).code (decode_of k d f)))) Refused) (decode_legal k d (row_of k).code f h m z)
-    ∙ ap (λ (x : Fields). Word (join_of x)) (encode_decode k d (row_of k).code f h m z)
+    ap (λ (b : Bool). cond b (Some (join_of (encode_of d (row_of k).code (decode_of k d f)))) None) (decode_legal k d (row_of k).code f h m z)
+    ∙ ap (λ (x : Fields). Some (join_of x)) (encode_decode k d (row_of k).code f h m z)
 
 -- what is read, written again, is the same word
-pub write_read : (w : ℕ) → w < 2 ^ 32 → (i : Instruction) → read_of w ≡ Legal i → write_of i ≡ Word w
+pub write_read : (w : ℕ) → w < 2 ^ 32 → (i : Instruction) → read_of w ≡ Some i → write_of i ≡ Some w
 unfolding read_of
 write_read w h i e =
     let c : Came (cut_of w) i = came (cut_of w) i e in
-    rw (← c.same) (written_back c.kind (cut_of w) (cut_fit w h) c.fit ∙ ap Word (join_cut w))
+    rw (← c.same) (written_back c.kind (cut_of w) (cut_fit w h) c.fit ∙ ap Some (join_cut w))
 
-read_back : (i : Instruction) → Legals (drawing_for i.kind) i → (w : ℕ) → join_of (encode_of (drawing_for i.kind) (row_of i.kind).code i) ≡ w → read_of w ≡ Legal i
+read_back : (i : Instruction) → Legals (drawing_for i.kind) i → (w : ℕ) → join_of (encode_of (drawing_for i.kind) (row_of i.kind).code i) ≡ w → read_of w ≡ Some i
 unfolding read_of
 read_back i g w e =
     let d : Drawing = drawing_for i.kind in
@@ -135,15 +134,15 @@ read_back i g w e =
     let cuts : cut_of w ≡ f = ap cut_of (sym e) ∙ cut_join f (encode_fit d n i z g) in
     ap read_fields cuts
     ∙ read_fits f i.kind (subst T (sym (matching d n f (encode_matches d n i z g))) tt)
-    ∙ ap Legal (decode_encode d n i z g)
+    ∙ ap Some (decode_encode d n i z g)
 
 -- what is written, read again, is the same instruction
-pub read_write : (i : Instruction) (w : ℕ) → write_of i ≡ Word w → read_of w ≡ Legal i
+pub read_write : (i : Instruction) (w : ℕ) → write_of i ≡ Some w → read_of w ≡ Some i
 unfolding write_of
 read_write i w e = by_legal (legal (drawing_for i.kind) i) refl e
   where
     by_legal : (b : Bool) → legal (drawing_for i.kind) i ≡ b
-        → cond b (Word (join_of (encode_of (drawing_for i.kind) (row_of i.kind).code i))) Refused ≡ Word w → read_of w ≡ Legal i
+        → cond b (Some (join_of (encode_of (drawing_for i.kind) (row_of i.kind).code i))) None ≡ Some w → read_of w ≡ Some i
     by_legal true l p = read_back i (legals (drawing_for i.kind) i (subst T (sym l) tt)) w (cc)
     by_legal false l p = cc
 
@@ -156,7 +155,7 @@ unfolding decode_of
 unique f j k s t = ap (λ (i : Instruction). i.kind) (same_reading f j k s t)
 
 -- two words that read as the same instruction are the same word
-pub read_injective : (v w : ℕ) → v < 2 ^ 32 → w < 2 ^ 32 → (i : Instruction) → read_of v ≡ Legal i → read_of w ≡ Legal i → v ≡ w
+pub read_injective : (v w : ℕ) → v < 2 ^ 32 → w < 2 ^ 32 → (i : Instruction) → read_of v ≡ Some i → read_of w ≡ Some i → v ≡ w
 read_injective v w hv hw i p q = let a = write_read v hv i p in let b = write_read w hw i q in cc
 
 -- ---- the operands of an instruction that was read name registers
@@ -176,7 +175,7 @@ operands k d f h = record {
   shift = operand_lt d.shift f.shift h.shift;
 }
 
-pub read_operands : (w : ℕ) → w < 2 ^ 32 → (i : Instruction) → read_of w ≡ Legal i → Operands i
+pub read_operands : (w : ℕ) → w < 2 ^ 32 → (i : Instruction) → read_of w ≡ Some i → Operands i
 unfolding read_of
 read_operands w h i e =
     let c : Came (cut_of w) i = came (cut_of w) i e in

@@ -1,5 +1,5 @@
 -- What a word reads as: the instruction whose drawing it fits, or none (document 01, Machine: "A field drawn as zero must be zero").
-use Rattle.std.specs.Prelude.{ℕ, ◌+◌, ◌*◌, ◌^◌, Bool, true, cond, ◌&&◌, ◌||◌, List, [], ◌∷◌, eqb}
+use Rattle.std.specs.Prelude.{ℕ, ◌+◌, ◌*◌, ◌^◌, Bool, true, cond, ◌&&◌, ◌||◌, List, [], ◌∷◌, eqb, Option, Some, None}
 use Rattle.word.specs.declared.field.Fields.{Fields}
 use Rattle.word.specs.Field.{cut_of}
 use Rattle.isa.specs.declared.kind.Kind.{Kind}
@@ -7,8 +7,6 @@ use Rattle.isa.specs.declared.kind.Instruction.{Instruction}
 use Rattle.isa.specs.declared.format.Role.{Role}
 use Rattle.isa.specs.declared.format.Role.TheVariants.{Operand, Control, Fixed, Code, Part}
 use Rattle.isa.specs.declared.format.Drawing.{Drawing}
-use Rattle.isa.specs.declared.reading.Reading.{Reading}
-use Rattle.isa.specs.declared.reading.Reading.TheVariants.{Legal, NoInstruction}
 use Rattle.isa.specs.Table.{row_of, instructions}
 use Rattle.isa.specs.Drawing.{drawing_of}
 
@@ -66,20 +64,20 @@ drawing_for k = drawing_of (row_of k).format
 abbrev pub fits_kind : Kind → Fields → Bool
 fits_kind k f = fits (drawing_for k) (row_of k).code f
 
-abbrev pub legal_if : Bool → Instruction → Reading
-legal_if t i = cond t (Legal i) NoInstruction
+abbrev pub legal_if : Bool → Instruction → Option Instruction
+legal_if t i = cond t (Some i) None
 
 -- a word read as an instruction of one kind
-unfoldable pub read_as : Kind → Fields → Reading
+unfoldable pub read_as : Kind → Fields → Option Instruction
 read_as k f = legal_if (fits_kind k f) (decode_of k (drawing_for k) f)
 
 -- the first instruction of the list whose drawing the fields fit; no fields fit two of them (`unique` of proofs/RoundTrip)
-abbrev pub read_from : List Kind → Fields → Reading
-read_from [] f = NoInstruction
-read_from (k ∷ ks) f = cond (fits_kind k f) (Legal (decode_of k (drawing_for k) f)) (read_from ks f)
+abbrev pub read_from : List Kind → Fields → Option Instruction
+read_from [] f = None
+read_from (k ∷ ks) f = cond (fits_kind k f) (Some (decode_of k (drawing_for k) f)) (read_from ks f)
 
-unfoldable pub read_fields : Fields → Reading
+unfoldable pub read_fields : Fields → Option Instruction
 read_fields f = read_from instructions f
 
-unfoldable pub read_of : ℕ → Reading
+unfoldable pub read_of : ℕ → Option Instruction
 read_of w = read_fields (cut_of w)

@@ -1,13 +1,11 @@
 -- What an instruction is written as: the word of its drawing, or refusal 18 (document 01, Refusal table).
-use Rattle.std.specs.Prelude.{ℕ, ◌/◌, ◌%◌, ◌^◌, Bool, cond, ◌&&◌, eqb, ltb}
+use Rattle.std.specs.Prelude.{ℕ, ◌/◌, ◌%◌, ◌^◌, Bool, cond, ◌&&◌, eqb, ltb, Option, Some, None}
 use Rattle.word.specs.declared.field.Fields.{Fields}
 use Rattle.word.specs.Field.{join_of}
 use Rattle.isa.specs.declared.kind.Instruction.{Instruction}
 use Rattle.isa.specs.declared.format.Role.{Role}
 use Rattle.isa.specs.declared.format.Role.TheVariants.{Operand, Control, Fixed, Code, Part}
 use Rattle.isa.specs.declared.format.Drawing.{Drawing}
-use Rattle.isa.specs.declared.writing.Written.{Written}
-use Rattle.isa.specs.declared.writing.Written.TheVariants.{Word, Refused}
 use Rattle.isa.specs.Table.{row_of}
 use Rattle.isa.specs.Reading.{is_control, drawing_for}
 
@@ -72,15 +70,15 @@ legal d i =
 
 -- ---- the writing
 
-unfoldable pub write_of : Instruction → Written
+unfoldable pub write_of : Instruction → Option ℕ
 write_of i =
-    cond (legal (drawing_for i.kind) i) (Word (join_of (encode_of (drawing_for i.kind) (row_of i.kind).code i))) Refused
+    cond (legal (drawing_for i.kind) i) (Some (join_of (encode_of (drawing_for i.kind) (row_of i.kind).code i))) None
 
 -- document 01's number for each case, and the word beside it: 0 with the word, or 18 with 0
-abbrev pub written_number : Written → ℕ
-written_number (Word w) = 0
-written_number Refused = 18
+abbrev pub written_number : Option ℕ → ℕ
+written_number (Some w) = 0
+written_number None = 18
 
-abbrev pub written_word : Written → ℕ
-written_word (Word w) = w
-written_word Refused = 0
+abbrev pub written_word : Option ℕ → ℕ
+written_word (Some w) = w
+written_word None = 0

@@ -1,8 +1,9 @@
 // The instruction set: its instructions as data, and the formats of their words.
 #![tactic(auto)]
 
+mod drawing;
 pub mod format;
 pub mod kind;
-pub mod name;
+mod number;
 pub mod reading;
-pub mod writing;
+mod row;

@@ -1,10 +1,16 @@
 // The sandbox layout: where a module's code and data lie in memory, and what is refused of it.
 #![tactic(auto)]
 
-ghost use Rattle.std.specs.Prelude.{◌≡◌, ◌<◌};
+ghost use Rattle.std.specs.Prelude.{◌≡◌, ◌<◌, ◌&&◌, leb};
+ghost use Rattle.std.specs.Int.{is_power_of_two};
+ghost use Rattle.refusal.specs.Refusal.{refused_number};
 ghost use Rattle.layout.specs.Layout as Spec;
 
+use refusal::Refusal;
 use word::bytes;
+
+// The largest area, in bytes.
+const LARGEST: u32 = 65536;
 
 #[derive(Clone, Copy)]
 pub struct Layout {
@@ -14,29 +20,28 @@ pub struct Layout {
     pub data_size: u32,
 }
 
+// A power of two, from `least` on.
+fn is_size(n: u32, least: u32) -> bool
+    ensures { result ≡ is_power_of_two n && (leb least n && leb n 65536) }
+{
+    n.is_power_of_two() && least <= n && n <= LARGEST
+}
+
+#[tactic(auto, using(crate::proofs::Sizes::code_sizes))]
 fn is_code_size(n: u32) -> bool
     ensures { result ≡ Spec.is_code_size n }
 {
-    (n == 16)
-        | ((n == 32)
-            | ((n == 64)
-                | ((n == 128)
-                    | ((n == 256)
-                        | ((n == 512)
-                            | ((n == 1024)
-                                | ((n == 2048)
-                                    | ((n == 4096)
-                                        | ((n == 8192)
-                                            | ((n == 16384)
-                                                | ((n == 32768) | ((n == 65536) | false))))))))))))
+    is_size(n, 16)
 }
 
+#[tactic(auto, using(crate::proofs::Sizes::data_sizes))]
 fn is_data_size(n: u32) -> bool
     ensures { result ≡ Spec.is_data_size n }
 {
-    (n == 4) | ((n == 8) | is_code_size(n))
+    is_size(n, 4)
 }
 
+#[tactic(auto, unfolding(crate::specs::Layout::is_placed))]
 fn is_placed(base: u32, size: u32, length: u64) -> bool
     requires { 0 < size }
     ensures { result ≡ Spec.is_placed base size length }
@@ -45,6 +50,7 @@ fn is_placed(base: u32, size: u32, length: u64) -> bool
 }
 
 impl Layout {
+    #[tactic(auto, unfolding(crate::specs::Layout::is_apart))]
     fn is_apart(self) -> bool
         ensures { result ≡ Spec.is_apart self }
     {
@@ -53,28 +59,29 @@ impl Layout {
         (code_end <= self.data_base as u64) | (data_end <= self.code_base as u64)
     }
 
-    // The first of the rules 1 to 6 that is broken; 0 where none is.
-    pub fn refusal(self, length: u64) -> u32
-        ensures { result ≡ Spec.layout_refusal self length }
+    // Refused by the first of the rules 1 to 6 that is broken.
+    #[tactic(auto, using(crate::proofs::Sizes::code_size_positive, crate::proofs::Sizes::data_size_positive), unfolding(crate::specs::Layout::layout_refusal))]
+    pub fn check(self, length: u64) -> Result<(), Refusal>
+        ensures { refused_number result ≡ Spec.layout_refusal self length }
     {
         if (bytes::LONGEST as u64) < length {
-            return bytes::TOO_LONG;
+            return Err(Refusal::MemoryTooLong);
         }
         if !is_code_size(self.code_size) {
-            return 2;
+            return Err(Refusal::CodeSize);
         }
         if !is_data_size(self.data_size) {
-            return 3;
+            return Err(Refusal::DataSize);
         }
         if !is_placed(self.code_base, self.code_size, length) {
-            return 4;
+            return Err(Refusal::CodePlace);
         }
         if !is_placed(self.data_base, self.data_size, length) {
-            return 5;
+            return Err(Refusal::DataPlace);
         }
         if !self.is_apart() {
-            return 6;
+            return Err(Refusal::Overlap);
         }
-        0
+        Ok(())
     }
 }

@@ -1,56 +1,37 @@
 // Reads a module from standard input and prints a line for each of its words: index, word, and the instruction with its fields.
 #![tactic(auto)]
 
-ghost use Rattle.std.specs.Prelude.{◌<◌};
-
-use cc100_instruction::ReadAnswer;
-use std::io;
 use std::io::Write;
+use std::{fmt, io};
 
 // The longest module, in bytes.
 const LONGEST_MODULE: usize = 65536;
 
-// The name of instruction number n, 1 to 72: eight places of a list of them in the order of the numbers.
-fn print_name(out: &mut impl Write, names: &[u8], n: u32) -> io::Result<()> {
-    let to = (n as usize) * 8;
-    if 8 <= to {
-        if to <= names.len() {
-            let from = to - 8;
-            return out.write_all(&names[from..to]);
+// A word of a module and its index, as the listing writes them.
+#[derive(Drop)]
+struct Line {
+    index: usize,
+    word: u32,
+}
+
+impl fmt::Display for Line {
+    fn fmt<W: fmt::Write>(&self, f: &mut fmt::Formatter<W>) -> fmt::Result {
+        write!(f, "{} 0x{:08x} ", self.index, self.word)?;
+        match reader::read(self.word) {
+            Some(i) => write!(
+                f,
+                "{:8} rs {} rt {} rd {} shift {} value {}",
+                i.kind, i.rs, i.rt, i.rd, i.shift, i.value
+            ),
+            None => f.write_str("no instruction"),
         }
     }
-    Ok(())
-}
-
-fn print_field(out: &mut impl Write, name: &str, x: u32) -> io::Result<()> {
-    write!(out, " {name} {x}")
-}
-
-fn print_instruction(out: &mut impl Write, i: ReadAnswer) -> io::Result<()> {
-    if i.kind == 0 {
-        return write!(out, "no instruction");
-    }
-    print_name(
-        out,
-        b"ADD     ADDI    ADDIU   ADDU    AND     ANDI    BEQ     BGEZ    BGEZAL  BGTZ    BLEZ    BLTZ    BLTZAL  BNE     BREAK   DIV     DIVU    J       JAL     JALR    JR      LB      LBU     LH      LHU     LL      LUI     LW      MFC0    MFHI    MFLO    MTC0    MTHI    MTLO    MULT    MULTU   NOR     OR      ORI     RFE     SB      SC      SH      SLL     SLLV    SLT     SLTI    SLTIU   SLTU    SRA     SRAV    SRL     SRLV    SUB     SUBU    SW      SYNC    SYSCALL TEQ     TEQI    TGE     TGEI    TGEIU   TGEU    TLT     TLTI    TLTIU   TLTU    TNE     TNEI    XOR     XORI    ",
-        i.kind,
-    )?;
-    print_field(out, "rs", i.rs)?;
-    print_field(out, "rt", i.rt)?;
-    print_field(out, "rd", i.rd)?;
-    print_field(out, "shift", i.shift)?;
-    print_field(out, "value", i.value)
-}
-
-fn print_line(out: &mut impl Write, index: usize, word: u32) -> io::Result<()> {
-    write!(out, "{index} 0x{word:08x} ")?;
-    print_instruction(out, cc100_instruction::cc100_read(word))?;
-    writeln!(out)
 }
 
 fn print_words(out: &mut impl Write, image: &[u8]) -> io::Result<()> {
-    for i in 0..image.len() / 4 {
-        print_line(out, i, word::bytes::load32(image, 4 * i))?;
+    for (index, bytes) in image.chunks_exact(4).enumerate() {
+        let word = word::bytes::load::<4>(bytes, 0);
+        writeln!(out, "{}", Line { index, word })?;
     }
     Ok(())
 }

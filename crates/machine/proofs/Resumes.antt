@@ -10,6 +10,9 @@ use Rattle.word.proofs.Choice.{by_test, by_zero}
 use Rattle.effect.specs.declared.effect.Effect.{Effect}
 use Rattle.effect.specs.Exit.{exit_of}
 use Rattle.branch.specs.Branch.{slot_of}
+use Rattle.refusal.specs.declared.Refusal.{Refusal}
+use Rattle.refusal.specs.Refusal.{number_of}
+use Rattle.refusal.proofs.Numbers.{number_some}
 use Rattle.machine.specs.declared.state.State.{State}
 use Rattle.machine.specs.State.{is_lawful, refusal_of, Typed}
 use Rattle.machine.specs.Step.{effect_at, Outcome, outcome, try_of, step_of}
@@ -22,6 +25,9 @@ module _ (s : State) (m : List ℕ) where
   pub resume_refused : (k : ℕ) → k ≡ refusal_of s (length m) → (k ≡ 0 → ⊥) → outcome k s m ≡ resume_of s m
   unfolding resume_of
   resume_refused k e n = rw (← e, ne_eqb k 0 n)
+
+  pub refused_as : (e : Refusal) → number_of e ≡ refusal_of s (length m) → outcome (number_of e) s m ≡ resume_of s m
+  refused_as e h = resume_refused (number_of e) h (number_some e)
 
   module _ (z : refusal_of s (length m) ≡ 0) (e : Effect) (given : e ≡ effect_at s m) (k : ℕ) (exit : k ≡ exit_of e) where
     step_number : (step_of s m).number ≡ k
@@ -61,7 +67,7 @@ resumed_typed s t =
         hi = w.hi;
         lo = w.lo;
         pc = w.next_pc;
-        next_pc = slot_word s.next_pc;
+        next_pc = slot_word s.special.next_pc;
         bad = w.bad;
         status = w.status;
         cause = w.cause;

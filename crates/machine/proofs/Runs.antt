@@ -8,6 +8,7 @@ use native.Mathlib.Omega.{arith}
 use lib.Dec.{eqb}
 use lib.ListN.{length}
 use borrow.Author.Tests.{eqb-true, eqb-false, ne_eqb}
+use Rattle.std.specs.Prelude.{Option, None, Some}
 use Rattle.word.proofs.Choice.{by_zero}
 use Rattle.effect.specs.declared.effect.Special.{Special}
 use Rattle.effect.specs.declared.effect.Effect.{Effect}
@@ -15,7 +16,12 @@ use Rattle.effect.specs.declared.effect.Touched.{Touched}
 use Rattle.effect.specs.declared.effect.Touched.TheVariants.{Nothing}
 use Rattle.effect.specs.Touched.{touched_of, last_of}
 use Rattle.effect.proofs.Touched.{last_first, last_joined, last_some, last_none, Wide, last_wide}
-use Rattle.effect.specs.Exit.{exit_of}
+use Rattle.effect.specs.declared.exit.Exit as X
+use Rattle.effect.specs.Exit.{number_of, exit_number, exit_of}
+use Rattle.effect.proofs.Exits.{no_exit, some_exit}
+use Rattle.refusal.specs.declared.Refusal.{Refusal}
+use Rattle.refusal.specs.Refusal as R
+use Rattle.refusal.proofs.Numbers.{number_some}
 use Rattle.machine.specs.declared.state.State.{State}
 use Rattle.machine.specs.State.{register_of, special_of, join_of, is_lawful, refusal_of, Typed, Bytes}
 use Rattle.parts.specs.Parts.{parts}
@@ -51,13 +57,19 @@ module _ (s : State) (m : List ℕ) (z : refusal_of s (length m) ≡ 0) (e : Eff
     left : b - done ≡ suc (b - (done + 1))
     left = omega arith
 
-    pub turn_exits : (exit_of e ≡ 0 → ⊥) → course (exit_of e) done t s m ≡ later done t (repeat_of (b - done) s m)
+    exits : (exit_of e ≡ 0 → ⊥) → course (exit_of e) done t s m ≡ later done t (repeat_of (b - done) s m)
     unfolding repeat_of
-    turn_exits n = rw (left, ← step_exits n, ne_eqb _ _ n) (halted_later done t (outcome (exit_of e) s m))
+    exits n = rw (left, ← step_exits n, ne_eqb _ _ n) (halted_later done t (outcome (exit_of e) s m))
 
-    pub turn_completes : (l : List ℕ) (d : Special) (x : List ℕ) → parts l d x ≡ applied_of e s.registers (special_of s) m → exit_of e ≡ 0 → later (done + 1) (last_of t (touched_of e)) (repeat_of (b - (done + 1)) (join_of l d) x) ≡ later done t (repeat_of (b - done) s m)
+    pub turn_exits : (o : Option X.Exit) → exit_number o ≡ exit_of e → (x : X.Exit) → o ≡ Some x → course (number_of x) done t s m ≡ later done t (repeat_of (b - done) s m)
+    turn_exits o q x h =
+        let k : number_of x ≡ exit_of e = rw h at q in
+        rw k (exits (λ z. some_exit o x h (q ∙ z)))
+
+    pub turn_completes : (l : List ℕ) (d : Special) (x : List ℕ) → parts l d x ≡ applied_of e s.registers (special_of s) m → (o : Option X.Exit) → exit_number o ≡ exit_of e → o ≡ None → later (done + 1) (last_of t (touched_of e)) (repeat_of (b - (done + 1)) (join_of l d) x) ≡ later done t (repeat_of (b - done) s m)
     unfolding repeat_of
-    turn_completes l d x a n =
+    turn_completes l d x a o q h =
+        let n : exit_of e ≡ 0 = sym q ∙ no_exit o h in
         let r = repeat_of (b - (done + 1)) (join_of l d) x in
         let p : done + 1 + r.steps ≡ done + (1 + r.steps) = omega arith in
         rw (left, ← step_completes l d x a n, p, last_joined t (touched_of e) r.touched)
@@ -65,9 +77,9 @@ module _ (s : State) (m : List ℕ) (z : refusal_of s (length m) ≡ 0) (e : Eff
 pub turns_begin : (s : State) (m : List ℕ) (b : ℕ) → later 0 Nothing (repeat_of (b - 0) s m) ≡ repeat_of b s m
 turns_begin s m b = let z : b - 0 ≡ b = omega arith in rw z (later_zero (repeat_of b s m))
 
-pub turns_done : (s : State) (m : List ℕ) (done b : ℕ) (t : Touched) → b ≤ done → course 0 done t s m ≡ later done t (repeat_of (b - done) s m)
+pub turns_done : (s : State) (m : List ℕ) (done b : ℕ) (t : Touched) → b ≡ done → course 0 b t s m ≡ later done t (repeat_of (b - done) s m)
 unfolding repeat_of
-turns_done s m done b t h = let z : b - done ≡ 0 = omega arith in rw z (halted_later done t (outcome 0 s m))
+turns_done s m done b t h = let z : b - done ≡ 0 = omega (arith, h) in rw (z, h) (halted_later done t (outcome 0 s m))
 
 repeat_wide : (n : ℕ) (s : State) (m : List ℕ) → Wide (repeat_of n s m).touched
 unfolding repeat_of
@@ -86,6 +98,9 @@ module _ (s : State) (m : List ℕ) (b : ℕ) where
   pub run_refused : (k : ℕ) → k ≡ refusal_of s (length m) → (k ≡ 0 → ⊥) → course k 0 Nothing s m ≡ run_of s m b
   unfolding run_of
   run_refused k e n = rw (← e, ne_eqb k 0 n)
+
+  pub refused_as : (e : Refusal) → R.number_of e ≡ refusal_of s (length m) → course (R.number_of e) 0 Nothing s m ≡ run_of s m b
+  refused_as e h = run_refused (R.number_of e) h (number_some e)
 
   pub run_repeats : refusal_of s (length m) ≡ 0 → repeat_of b s m ≡ run_of s m b
   unfolding run_of

@@ -8,12 +8,11 @@ use native.Mathlib.Omega.{arith}
 use lib.Dec.{leb, ltb}
 use lib.ListN.{length, get_or}
 use borrow.Author.Tests.{ne_eqb, lt-ltb, le-ltb, le-leb, lt-leb}
+use Rattle.std.specs.Prelude.{Option, Some, None}
 use Rattle.word.specs.Bytes.{load_of, store_of, longest}
 use Rattle.word.proofs.Choice.{by_zero}
 use Rattle.word.proofs.Memory.{store_length, store_below, store_above, store_bytes, load_lt}
 use Rattle.isa.specs.declared.kind.Instruction.{Instruction}
-use Rattle.isa.specs.declared.reading.Reading.{Reading}
-use Rattle.isa.specs.declared.reading.Reading.TheVariants.{Legal, NoInstruction}
 use Rattle.isa.specs.Reading.{read_of}
 use Rattle.isa.proofs.RoundTrip.{Operands, read_operands}
 use Rattle.effect.specs.declared.effect.Special.{Special}
@@ -23,10 +22,15 @@ use Rattle.effect.specs.declared.effect.Touched.{Touched}
 use Rattle.effect.specs.declared.effect.Touched.TheVariants.{Nothing, Load, Store}
 use Rattle.effect.specs.Touched.{touched_of}
 use Rattle.effect.proofs.Touched.{Wide, touched_wide}
-use Rattle.effect.specs.Exit.{no_instruction, fetch_outside, exit_of}
+use Rattle.effect.specs.declared.exit.Exit.TheVariants as E
+use Rattle.effect.specs.Exit.{exit_of}
+use Rattle.effect.proofs.Exits.{number_range}
 use Rattle.decision.specs.Decision.{decision_of}
 use Rattle.effect.specs.Sound.{Sound}
 use Rattle.decision.proofs.Sound.{exits, decision_sound}
+use Rattle.refusal.specs.declared.Refusal.{Refusal}
+use Rattle.refusal.specs.Refusal.{number_of}
+use Rattle.refusal.proofs.Numbers.{number_some}
 use Rattle.machine.specs.declared.state.State.{State}
 use Rattle.machine.specs.State.{register_of, special_of, join_of, is_lawful, refusal_of, Typed, Bytes}
 use Rattle.parts.specs.Parts.{Parts, parts}
@@ -37,42 +41,42 @@ use Rattle.machine.proofs.Valid.{Valid, valid, valid_lawful, typed, apply_valid,
 
 -- ---- the effect of a step is sound
 
-pub read_sound : (s : State) → Valid s → (n : ℕ) (r : Reading) → ((i : Instruction) → r ≡ Legal i → Operands i) → Sound (read_effect r s n) n (read_access r s).at (read_access r s).width
+pub read_sound : (s : State) → Valid s → (n : ℕ) (r : Option Instruction) → ((i : Instruction) → r ≡ Some i → Operands i) → Sound (read_effect r s n) n (read_access r s).at (read_access r s).width
 unfolding effect_of
-read_sound s v n NoInstruction o = exits 49 refl refl
-read_sound s v n (Legal i) o =
+read_sound s v n None o = exits _
+read_sound s v n (Some i) o =
     decision_sound i (o i refl) (v.registers.words i.rs) (v.registers.words i.rt) v.special n
 
 module _ (s : State) (m : List ℕ) (v : Valid s) (b : Bytes m) where
-  fetched : (t : Bool) (r : Reading) → ((i : Instruction) → r ≡ Legal i → Operands i) → Sound (cond t (read_effect r s (length m)) (Exit fetch_outside)) (length m) (cond t (read_access r s) (span 0 0)).at (cond t (read_access r s) (span 0 0)).width
+  fetched : (t : Bool) (r : Option Instruction) → ((i : Instruction) → r ≡ Some i → Operands i) → Sound (cond t (read_effect r s (length m)) (Exit E.Fetch)) (length m) (cond t (read_access r s) (span 0 0)).at (cond t (read_access r s) (span 0 0)).width
   fetched true r o = read_sound s v (length m) r o
-  fetched false r o = exits 50 refl refl
+  fetched false r o = exits _
 
   pub effect_sound : Sound (effect_at s m) (length m) (access_at s m).at (access_at s m).width
   unfolding effect_at access_at
   effect_sound =
-      fetched (leb (s.pc + 4) (length m)) (read_of (load_of 4 m s.pc)) (read_operands (load_of 4 m s.pc) (load_lt 4 m s.pc b))
+      fetched (leb (s.special.pc + 4) (length m)) (read_of (load_of 4 m s.special.pc)) (read_operands (load_of 4 m s.special.pc) (load_lt 4 m s.special.pc b))
 
 -- ---- the effect, by what the code finds at each turn
 
 module _ (s : State) (m : List ℕ) where
-  pub fetch_outside_law : length m < s.pc + 4 → Exit fetch_outside ≡ effect_at s m
+  pub fetch_outside_law : length m < s.special.pc + 4 → Exit E.Fetch ≡ effect_at s m
   unfolding effect_at
-  fetch_outside_law h = rw (lt-leb (s.pc + 4) (length m) h)
+  fetch_outside_law h = rw (lt-leb (s.special.pc + 4) (length m) h)
 
-  module _ (h : s.pc + 4 ≤ length m) (w : ℕ) (r : Reading) (loaded : w ≡ load_of 4 m s.pc) (given : r ≡ read_of w) where
+  module _ (h : s.special.pc + 4 ≤ length m) (w : ℕ) (r : Option Instruction) (loaded : w ≡ load_of 4 m s.special.pc) (given : r ≡ read_of w) where
     fetch_read : read_effect r s (length m) ≡ effect_at s m
     unfolding effect_at
-    fetch_read = rw (le-leb (s.pc + 4) (length m) h, given, loaded)
+    fetch_read = rw (le-leb (s.special.pc + 4) (length m) h, given, loaded)
 
-    pub fetch_nothing : r ≡ NoInstruction → Exit no_instruction ≡ effect_at s m
+    pub fetch_nothing : r ≡ None → Exit E.NoInstruction ≡ effect_at s m
     fetch_nothing e = rw (← fetch_read, e)
 
-    pub fetch_decided : (i : Instruction) → r ≡ Legal i → decision_of i (register_of s.registers i.rs) (register_of s.registers i.rt) (special_of s) (length m) ≡ effect_at s m
+    pub fetch_decided : (i : Instruction) → r ≡ Some i → decision_of i (register_of s.registers i.rs) (register_of s.registers i.rt) (special_of s) (length m) ≡ effect_at s m
     unfolding effect_of
     fetch_decided i e = rw (← fetch_read, e)
 
-pub fetch_operands : (m : List ℕ) (a w : ℕ) (r : Reading) (i : Instruction) → Bytes m → w ≡ load_of 4 m a → r ≡ read_of w → r ≡ Legal i → Operands i
+pub fetch_operands : (m : List ℕ) (a w : ℕ) (r : Option Instruction) (i : Instruction) → Bytes m → w ≡ load_of 4 m a → r ≡ read_of w → r ≡ Some i → Operands i
 fetch_operands m a w r i b l g e = read_operands w (rw l (load_lt 4 m a b)) i (sym g ∙ e)
 
 -- ---- an exit and a refusal leave everything
@@ -128,6 +132,9 @@ module _ (s : State) (m : List ℕ) where
   unfolding step_of
   step_refused k e n = rw (← e, ne_eqb k 0 n)
 
+  pub refused_as : (e : Refusal) → number_of e ≡ refusal_of s (length m) → outcome (number_of e) s m ≡ step_of s m
+  refused_as e h = step_refused (number_of e) h (number_some e)
+
   abbrev tried : Effect → Parts → Outcome
   tried e x = record { number = exit_of e; touched = touched_of e; machine = joined x }
 
@@ -146,7 +153,7 @@ exit_leaves s m =
 
 -- the numbers of a step that is not refused: done, or an exit of document 01's list
 numbered : {n at w : ℕ} (e : Effect) → Sound e n at w → (exit_of e ≡ 0) ⊎ ((40 ≤ exit_of e) × (exit_of e ≤ 52))
-numbered (Exit e) k = inr k.keeps
+numbered (Exit e) k = inr (number_range e)
 numbered Advance k = inl refl
 numbered (Write r v) k = inl refl
 numbered (Pair h l) k = inl refl

@@ -8,12 +8,12 @@ use mathlib.Core.Logic.{⊎_elim}
 use native.Mathlib.Omega.{arith}
 use lib.ListN.{length}
 use borrow.Author.Tests.{le-leb}
+use Rattle.std.specs.Prelude.{Some}
 use Rattle.word.specs.Bytes.{load_of}
 use Rattle.isa.specs.declared.kind.Access.{Access}
 use Rattle.isa.specs.declared.kind.Access.TheVariants.{Lb, Lbu, Sb, Lh, Lhu, Sh, Lw, Sw, Ll, Sc}
 use Rattle.isa.specs.declared.kind.Kind.TheVariants as K
 use Rattle.isa.specs.declared.kind.Instruction.{Instruction}
-use Rattle.isa.specs.declared.reading.Reading.TheVariants.{Legal}
 use Rattle.isa.specs.Reading.{read_of}
 use Rattle.class.specs.Class.{access_class, class_of}
 use Rattle.effect.specs.declared.effect.Effect.{Effect}
@@ -66,34 +66,34 @@ unstored false ll rt a b h = refl
 
 -- ---- the step
 
-module _ (s : State) (m : List ℕ) (i : Instruction) (fetched : s.pc + 4 ≤ length m) (reads : read_of (load_of 4 m s.pc) ≡ Legal i) where
+module _ (s : State) (m : List ℕ) (i : Instruction) (fetched : s.special.pc + 4 ≤ length m) (reads : read_of (load_of 4 m s.special.pc) ≡ Some i) where
   effect_is : effect_at s m ≡ effect_of i s (length m)
   unfolding effect_at
-  effect_is = rw (le-leb (s.pc + 4) (length m) fetched, reads)
+  effect_is = rw (le-leb (s.special.pc + 4) (length m) fetched, reads)
 
   access_is : access_at s m ≡ instruction_access i s
   unfolding access_at
-  access_is = rw (le-leb (s.pc + 4) (length m) fetched, reads)
+  access_is = rw (le-leb (s.special.pc + 4) (length m) fetched, reads)
 
   module _ (k : Access) (isAccess : i.kind ≡ K.Access k) where
-    accessed : effect_of i s (length m) ≡ access_of k i.rt (register_of s.registers i.rs) (register_of s.registers i.rt) i.value s.ll (length m)
+    accessed : effect_of i s (length m) ≡ access_of k i.rt (register_of s.registers i.rs) (register_of s.registers i.rt) i.value s.special.ll (length m)
     unfolding effect_of decision_of
     accessed = rw isAccess
 
     -- a step that completes touches the whole access, in the direction of the instruction's class; but an SC needs the LL bit
-    pub touched_access : (k ≡ Sc → s.ll ≡ true) → (step_of s m).number ≡ 0 → (step_of s m).touched ≡ directed (class_of i.kind).store (access_at s m)
+    pub touched_access : (k ≡ Sc → s.special.ll ≡ true) → (step_of s m).number ≡ 0 → (step_of s m).touched ≡ directed (class_of i.kind).store (access_at s m)
     unfolding try_of
     touched_access h =
         by_refusal (λ o. o.number ≡ 0 → o.touched ≡ directed (class_of i.kind).store (access_at s m)) s m
-        (λ _. rw (access_is, isAccess, effect_is, accessed) (access_touches k i.rt _ _ i.value s.ll (length m) h))
+        (λ _. rw (access_is, isAccess, effect_is, accessed) (access_touches k i.rt _ _ i.value s.special.ll (length m) h))
         (λ k n z. absurd (n z))
 
     -- an SC without the LL bit touches nothing
-    pub touched_unstored : k ≡ Sc → s.ll ≡ false → (step_of s m).touched ≡ Nothing
+    pub touched_unstored : k ≡ Sc → s.special.ll ≡ false → (step_of s m).touched ≡ Nothing
     unfolding try_of
     touched_unstored e h =
         by_refusal (λ o. o.touched ≡ Nothing) s m
-        (λ _. rw (effect_is, accessed, e) (unstored _ s.ll _ _ _ h))
+        (λ _. rw (effect_is, accessed, e) (unstored _ s.special.ll _ _ _ h))
         (λ k n. refl)
 
 -- an exit and a refusal touch nothing

@@ -65,7 +65,7 @@ valid s t e =
 
 lawful : (s : State) → register_of s.registers 0 ≡ 0 → Regular (special_of s) → is_lawful s ≡ true
 unfolding is_lawful
-lawful s z r = rw (z, r.pc.1, r.next_pc.1, lt-ltb s.status (2 ^ 13) r.status)
+lawful s z r = rw (z, r.pc.1, r.next_pc.1, lt-ltb s.special.status (2 ^ 13) r.status)
 
 pub valid_lawful : (s : State) → Valid s → is_lawful s ≡ true
 valid_lawful s v = lawful s v.registers.zero_register v.special

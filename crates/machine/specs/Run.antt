@@ -1,9 +1,13 @@
 -- A run: the step repeated until the budget is spent or a step does not complete (document 01, Machine).
-use Rattle.std.specs.Prelude.{ℕ, zero, suc, ◌+◌, cond, List, eqb, length}
+use Rattle.std.specs.Prelude.{ℕ, zero, suc, ◌+◌, cond, List, eqb, length, Result, Ok, Err}
 use Rattle.effect.specs.declared.effect.Touched.{Touched}
 use Rattle.effect.specs.declared.effect.Touched.TheVariants.{Nothing}
 use Rattle.effect.specs.Touched.{last_of}
+use Rattle.effect.specs.Exit.{exit_number}
+use Rattle.refusal.specs.declared.Refusal.{Refusal}
+use Rattle.refusal.specs.Refusal.{number_of}
 use Rattle.machine.specs.declared.state.State.{State}
+use Rattle.machine.specs.declared.run.Ran.{Ran}
 use Rattle.machine.specs.State.{refusal_of}
 use Rattle.machine.specs.Apply.{Machine}
 use Rattle.machine.specs.Step.{Outcome, outcome, step_of}
@@ -48,3 +52,13 @@ then_of r budget =
 -- a step, and where it completes a run
 unfoldable pub after_of : Outcome → ℕ → Course
 after_of o budget = cond (eqb o.number 0) (later 1 o.touched (run_of o.machine.state o.machine.memory budget)) (halted o)
+
+-- ---- what the methods of a state answer
+
+abbrev pub done_of : Ran → List ℕ → Course
+done_of r m = course (exit_number r.exit) r.steps r.touched r.state m
+
+-- a refusal leaves the state that it refuses
+abbrev pub answer_of : State → Result Ran Refusal → List ℕ → Course
+answer_of s (Ok r) m = done_of r m
+answer_of s (Err e) m = course (number_of e) 0 Nothing s m

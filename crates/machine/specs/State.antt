@@ -11,39 +11,16 @@ register_of l r = get_or l r 0
 
 -- the state in two parts: the 32 registers and the others
 abbrev pub special_of : State → Special
-special_of s =
-    record {
-      hi = s.hi;
-      lo = s.lo;
-      pc = s.pc;
-      next_pc = s.next_pc;
-      ll = s.ll;
-      bad = s.bad;
-      status = s.status;
-      cause = s.cause;
-      epc = s.epc;
-    }
+special_of s = s.special
 
 abbrev pub join_of : List ℕ → Special → State
-join_of l c =
-    record {
-      registers = l;
-      hi = c.hi;
-      lo = c.lo;
-      pc = c.pc;
-      next_pc = c.next_pc;
-      ll = c.ll;
-      bad = c.bad;
-      status = c.status;
-      cause = c.cause;
-      epc = c.epc;
-    }
+join_of l c = record { registers = l; special = c }
 
 -- register 0 is zero, PC and next PC are multiples of 4, no status bit above 12 is set
 unfoldable pub is_lawful : State → Bool
 is_lawful s =
     eqb (register_of s.registers 0) 0
-    && (eqb (s.pc % 4) 0 && (eqb (s.next_pc % 4) 0 && ltb s.status (2 ^ 13)))
+    && (eqb (s.special.pc % 4) 0 && (eqb (s.special.next_pc % 4) 0 && ltb s.special.status (2 ^ 13)))
 
 -- the refusals that step, run and resume try first, in this order; 0 where neither is due
 unfoldable pub refusal_of : State → ℕ → ℕ

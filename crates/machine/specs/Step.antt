@@ -1,9 +1,7 @@
 -- One step, from the fetch to the state and memory that it leaves (document 01, Machine).
-use Rattle.std.specs.Prelude.{ℕ, ◌+◌, cond, List, eqb, leb, length}
+use Rattle.std.specs.Prelude.{ℕ, ◌+◌, cond, List, eqb, leb, length, Option, Some, None, Result, Ok, Err}
 use Rattle.word.specs.Bytes.{load_of}
 use Rattle.isa.specs.declared.kind.Instruction.{Instruction}
-use Rattle.isa.specs.declared.reading.Reading.{Reading}
-use Rattle.isa.specs.declared.reading.Reading.TheVariants.{Legal, NoInstruction}
 use Rattle.isa.specs.Reading.{read_of}
 use Rattle.class.specs.Class.{class_of}
 use Rattle.effect.specs.declared.effect.Effect.{Effect}
@@ -11,10 +9,14 @@ use Rattle.effect.specs.declared.effect.Effect.TheVariants.{Exit}
 use Rattle.effect.specs.declared.effect.Touched.{Touched}
 use Rattle.effect.specs.declared.effect.Touched.TheVariants.{Nothing}
 use Rattle.effect.specs.Touched.{touched_of}
-use Rattle.effect.specs.Exit.{no_instruction, fetch_outside, exit_of}
+use Rattle.effect.specs.declared.exit.Exit.TheVariants as E
+use Rattle.effect.specs.Exit.{exit_number, exit_of}
 use Rattle.access.specs.Access.{address_of}
 use Rattle.decision.specs.Decision.{decision_of}
+use Rattle.refusal.specs.declared.Refusal.{Refusal}
+use Rattle.refusal.specs.Refusal.{number_of}
 use Rattle.machine.specs.declared.state.State.{State}
+use Rattle.machine.specs.declared.step.Stepped.{Stepped}
 use Rattle.machine.specs.State.{register_of, special_of, refusal_of}
 use Rattle.machine.specs.Apply.{Machine, Span, span, apply_of}
 
@@ -22,25 +24,25 @@ use Rattle.machine.specs.Apply.{Machine, Span, span, apply_of}
 unfoldable pub effect_of : Instruction → State → ℕ → Effect
 effect_of i s n = decision_of i (register_of s.registers i.rs) (register_of s.registers i.rt) (special_of s) n
 
-abbrev pub read_effect : Reading → State → ℕ → Effect
-read_effect NoInstruction s n = Exit no_instruction
-read_effect (Legal i) s n = effect_of i s n
+abbrev pub read_effect : Option Instruction → State → ℕ → Effect
+read_effect None s n = Exit E.NoInstruction
+read_effect (Some i) s n = effect_of i s n
 
 -- a fetch needs four bytes inside memory; 50 comes before 49
 unfoldable pub effect_at : State → List ℕ → Effect
-effect_at s m = cond (leb (s.pc + 4) (length m)) (read_effect (read_of (load_of 4 m s.pc)) s (length m)) (Exit fetch_outside)
+effect_at s m = cond (leb (s.special.pc + 4) (length m)) (read_effect (read_of (load_of 4 m s.special.pc)) s (length m)) (Exit E.Fetch)
 
 -- an instruction's access: the bytes at base plus offset that it loads or stores, none where it is no access
 abbrev pub instruction_access : Instruction → State → Span
 instruction_access i s = span (address_of (register_of s.registers i.rs) i.value) (class_of i.kind).width
 
-abbrev pub read_access : Reading → State → Span
-read_access NoInstruction s = span 0 0
-read_access (Legal i) s = instruction_access i s
+abbrev pub read_access : Option Instruction → State → Span
+read_access None s = span 0 0
+read_access (Some i) s = instruction_access i s
 
 -- the access that a step tries; an SC counts also where it does not store, and any access where the step exits
 unfoldable pub access_at : State → List ℕ → Span
-access_at s m = cond (leb (s.pc + 4) (length m)) (read_access (read_of (load_of 4 m s.pc)) s) (span 0 0)
+access_at s m = cond (leb (s.special.pc + 4) (length m)) (read_access (read_of (load_of 4 m s.special.pc)) s) (span 0 0)
 
 -- the number that a call answers, what it touched (document 02, Ticket 1: the access that its step completed), and the state and memory that it
 -- leaves
@@ -62,3 +64,13 @@ try_of s m = record { number = exit_of (effect_at s m); touched = touched_of (ef
 
 unfoldable pub step_of : State → List ℕ → Outcome
 step_of s m = cond (eqb (refusal_of s (length m)) 0) (try_of s m) (outcome (refusal_of s (length m)) s m)
+
+-- ---- what the methods of a state answer
+
+abbrev pub done_of : Stepped → List ℕ → Outcome
+done_of r m = stepped (exit_number r.exit) r.touched r.state m
+
+-- a refusal leaves the state that it refuses
+abbrev pub answer_of : State → Result Stepped Refusal → List ℕ → Outcome
+answer_of s (Ok r) m = done_of r m
+answer_of s (Err e) m = outcome (number_of e) s m

@@ -1,26 +1,20 @@
 // A resume after an exit: the state goes on behind the instruction that exited.
 ghost use Rattle.std.specs.Prelude.{◌≡◌};
-ghost use Rattle.machine.specs.Step.{outcome};
+ghost use Rattle.effect.specs.Exit.{exit_number};
 ghost use Rattle.machine.specs.Resume as Spec;
 
 use crate::state::State;
+use effect::exit::Exit;
+use refusal::Refusal;
 
-// 0 and the state that goes on, or the refusal's number and the state as it was.
-#[derive(Clone, Copy)]
-pub struct Resumed {
-    pub number: u32,
-    pub state: State,
-}
-
-// A resume where the step does not end in an exit that it serves.
-const NOT_SERVED: u32 = 19;
-
-fn is_served(number: u32) -> bool
-    ensures { result ≡ Spec.is_served number }
+#[tactic(auto, unfolding(crate::specs::Resume::is_served))]
+fn is_served(exit: Option<Exit>) -> bool
+    ensures { result ≡ Spec.is_served (exit_number exit) }
 {
-    (number == effect::exit::INTEGER_OVERFLOW)
-        | ((number == effect::exit::SYSTEM_CALL)
-            | ((number == effect::exit::BREAKPOINT) | (number == effect::exit::TRAP)))
+    matches!(
+        exit,
+        Some(Exit::IntegerOverflow | Exit::SystemCall | Exit::Breakpoint | Exit::Trap)
+    )
 }
 
 impl State {
@@ -28,33 +22,22 @@ impl State {
         ensures { result ≡ Spec.resumed_of self }
     {
         let mut s = self;
-        s.pc = self.next_pc;
-        s.next_pc = branch::slot(self.next_pc);
-        s.ll = false;
+        s.special = parts::linked(parts::advance(self.special), false);
         s
     }
 
-    pub fn resume(self, memory: &[u8]) -> Resumed
-        ensures { outcome result.number result.state memory.now ≡ Spec.resume_of self memory.now }
+    // The state that goes on.
+    #[tactic(auto, using(crate::proofs::Resumes::refused_as, crate::proofs::Resumes::resume_served, crate::proofs::Resumes::resume_not_served))]
+    pub fn resume(self, memory: &[u8]) -> Result<State, Refusal>
+        ensures { Spec.answer_of self result memory.now ≡ Spec.resume_of self memory.now }
     {
-        let refused = self.refusal(memory.len());
-        if refused != 0 {
-            return Resumed {
-                number: refused,
-                state: self,
-            };
-        }
+        self.refusal(memory.len())?;
         let registers = self.registers;
-        let e = crate::step::effect_at(self.special(), &registers, memory);
-        if is_served(effect::exit::exit_of(e)) {
-            return Resumed {
-                number: 0,
-                state: self.resumed(),
-            };
-        }
-        Resumed {
-            number: NOT_SERVED,
-            state: self,
+        let e = crate::step::effect_at(self.special, &registers, memory);
+        if is_served(e.exit()) {
+            Ok(self.resumed())
+        } else {
+            Err(Refusal::NotServed)
         }
     }
 }

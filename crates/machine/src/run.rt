@@ -1,108 +1,83 @@
 // A run: steps repeated on a state that is taken apart once and joined again at the end.
 ghost use Rattle.std.specs.Prelude.{◌≡◌, length};
-ghost use Rattle.effect.specs.Touched.{InWords};
+ghost use Rattle.effect.specs.Exit.{exit_number};
 ghost use Rattle.machine.specs.State.{join_of, refusal_of};
 ghost use Rattle.machine.specs.Run as Spec;
 
 use crate::state::State;
 use effect::effect::{Special, Touched};
+use effect::exit::Exit;
+use refusal::Refusal;
 
-// The outcome's number (0: still running), the steps completed, the last access among them, and the state reached.
+// The exit that the run ends in (none: still running), the steps completed, the last access among them, and the state reached.
 #[derive(Clone, Copy)]
 pub struct Ran {
-    pub number: u32,
+    pub exit: Option<Exit>,
     pub steps: u32,
     pub touched: Touched,
-    pub state: State,
-}
-
-// The same with that access in two words, as the loop keeps it.
-#[derive(Clone, Copy)]
-pub struct RanWords {
-    pub number: u32,
-    pub steps: u32,
-    pub address: u32,
-    pub code: u32,
     pub state: State,
 }
 
 // The same with the 32 registers left where they were lent.
 #[derive(Clone, Copy)]
 struct Course {
-    number: u32,
+    exit: Option<Exit>,
     steps: u32,
-    address: u32,
-    code: u32,
+    touched: Touched,
     special: Special,
 }
 
 fn repeat(c: Special, registers: &mut [u32; 32], memory: &mut [u8], budget: u32) -> Course
     requires { refusal_of (join_of registers.old c) (length memory.old) ≡ 0 }
-    ensures { InWords (λ t. Spec.course result.number result.steps t (join_of registers.new result.special) memory.new) result.address result.code (Spec.repeat_of budget (join_of registers.old c) memory.old) }
+    ensures { Spec.course (exit_number result.exit) result.steps result.touched (join_of registers.new result.special) memory.new ≡ Spec.repeat_of budget (join_of registers.old c) memory.old }
 {
     let mut special = c;
-    let mut steps: u32 = 0;
-    let mut last: [u32; 2] = [0; 2];
-    while steps < budget {
+    let mut touched = Touched::Nothing;
+    for steps in 0..budget {
         let e = crate::step::effect_at(special, registers, memory);
-        let number = effect::exit::exit_of(e);
-        if number != 0 {
+        if let Some(exit) = e.exit() {
             return Course {
-                number,
+                exit: Some(exit),
                 steps,
-                address: last[0],
-                code: last[1],
+                touched,
                 special,
             };
         }
-        special = apply::apply(e, special, registers, memory, &mut last);
-        steps += 1;
+        special = apply::apply(e, special, registers, memory, &mut touched);
     }
     Course {
-        number: 0,
-        steps,
-        address: last[0],
-        code: last[1],
+        exit: None,
+        steps: budget,
+        touched,
         special,
     }
 }
 
 impl State {
-    pub fn run_words(self, memory: &mut [u8], budget: u32) -> RanWords
-        ensures { InWords (λ t. Spec.course result.number result.steps t result.state memory.new) result.address result.code (Spec.run_of self memory.old budget) }
+    // A run that nothing refuses.
+    #[tactic(auto, using(crate::proofs::Runs::run_repeats))]
+    pub fn run_unrefused(self, memory: &mut [u8], budget: u32) -> Ran
+        requires { refusal_of self (length memory.old) ≡ 0 }
+        ensures { Spec.done_of result memory.new ≡ Spec.run_of self memory.old budget }
     {
-        let refused = self.refusal(memory.len());
-        if refused != 0 {
-            return RanWords {
-                number: refused,
-                steps: 0,
-                address: 0,
-                code: 0,
-                state: self,
-            };
-        }
         let mut registers = self.registers;
-        let r = repeat(self.special(), &mut registers, memory, budget);
-        let special = r.special;
-        RanWords {
-            number: r.number,
+        let r = repeat(self.special, &mut registers, memory, budget);
+        Ran {
+            exit: r.exit,
             steps: r.steps,
-            address: r.address,
-            code: r.code,
-            state: crate::state::join(registers, special),
+            touched: r.touched,
+            state: State {
+                registers,
+                special: r.special,
+            },
         }
     }
 
-    pub fn run(self, memory: &mut [u8], budget: u32) -> Ran
-        ensures { Spec.course result.number result.steps result.touched result.state memory.new ≡ Spec.run_of self memory.old budget }
+    #[tactic(auto, using(crate::proofs::Runs::refused_as))]
+    pub fn run(self, memory: &mut [u8], budget: u32) -> Result<Ran, Refusal>
+        ensures { Spec.answer_of self result memory.new ≡ Spec.run_of self memory.old budget }
     {
-        let r = self.run_words(memory, budget);
-        let state = r.state;
-        Ran {
-            number: r.number,
-            steps: r.steps,
-            touched: parts::touched(r.address, r.code),
-            state,
-        }
+        self.refusal(memory.len())?;
+        Ok(self.run_unrefused(memory, budget))
     }
 }

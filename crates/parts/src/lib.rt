@@ -1,12 +1,11 @@
-// What an effect changes, one thing at a time: a register, the others by value, memory, and the two words that keep the last access.
+// What an effect changes, one thing at a time: a register, the others by value, and memory.
 #![tactic(auto)]
 
-ghost use Rattle.std.specs.Prelude.{◌≡◌, false, ◌+◌, ◌^◌, ◌≤◌, ◌<◌, length, set};
+ghost use Rattle.std.specs.Prelude.{◌≡◌, false, ◌+◌, ◌^◌, ◌≤◌, ◌<◌, length};
 ghost use Rattle.word.specs.Bytes.{load_of, store_of};
-ghost use Rattle.effect.specs.Touched.{touched_in};
 ghost use Rattle.parts.specs.Parts as Spec;
 
-use effect::effect::{Special, Touched};
+use effect::effect::Special;
 
 #[tactic(auto, using(crate::proofs::Registers::put_other, crate::proofs::Registers::put_none))]
 fn put(registers: &mut [u32; 32], r: u32, v: u32)
@@ -22,10 +21,11 @@ fn put(registers: &mut [u32; 32], r: u32, v: u32)
 pub fn jump(c: Special, target: u32) -> Special
     ensures { result ≡ Spec.jump_of c target }
 {
-    let mut d = c;
-    d.pc = c.next_pc;
-    d.next_pc = target;
-    d
+    Special {
+        pc: c.next_pc,
+        next_pc: target,
+        ..c
+    }
 }
 
 pub fn advance(c: Special) -> Special
@@ -37,49 +37,39 @@ pub fn advance(c: Special) -> Special
 pub fn pair(c: Special, hi: u32, lo: u32) -> Special
     ensures { result ≡ Spec.pair_of c hi lo }
 {
-    let mut d = c;
-    d.hi = hi;
-    d.lo = lo;
-    d
+    Special { hi, lo, ..c }
 }
 
 pub fn linked(c: Special, ll: bool) -> Special
     ensures { result ≡ Spec.linked_of c ll }
 {
-    let mut d = c;
-    d.ll = ll;
-    d
+    Special { ll, ..c }
 }
 
 pub fn with_status(c: Special, status: u32) -> Special
     ensures { result ≡ Spec.status_of c status }
 {
-    let mut d = c;
-    d.status = status;
-    d
+    Special { status, ..c }
 }
 
+// Numbers, as the instruction has them: an enum of the four would add a match of numbers to this one and to that of `system::control`.
+#[tactic(auto, unfolding(crate::specs::Parts::controlled_of))]
 pub fn controlled(c: Special, r: u32, v: u32) -> Special
     ensures { result ≡ Spec.controlled_of c r v }
 {
-    let mut d = c;
-    if r == 8 {
-        d.bad = v;
-        return d;
+    match r {
+        8 => Special { bad: v, ..c },
+        12 => Special {
+            status: v % 8192,
+            ..c
+        },
+        13 => Special { cause: v, ..c },
+        _ => Special { epc: v, ..c },
     }
-    if r == 12 {
-        d.status = v % 8192;
-        return d;
-    }
-    if r == 13 {
-        d.cause = v;
-        return d;
-    }
-    d.epc = v;
-    d
 }
 
-// A register is written, and the program counters move on.
+// A register is written, and the program counters move on. That it is below 32 stays a clause here and below: an effect names its register by the number in
+// the instruction, of which a type of such numbers would have to be made anew at each effect.
 pub fn write(registers: &mut [u32; 32], r: u32, v: u32, c: Special) -> Special
     requires { r < 2 ^ 5 }
     ensures { (registers.new ≡ Spec.put_of registers.old r v) × (result ≡ Spec.advance_of c) }
@@ -96,56 +86,29 @@ pub fn link(registers: &mut [u32; 32], r: u32, v: u32, target: u32, c: Special) 
     jump(c, target)
 }
 
-pub fn byte(memory: &[u8], a: u32, signed: bool) -> u32
-    requires { a + 1 ≤ length memory.now }
-    ensures { result ≡ Spec.loaded_of 8 signed (load_of 1 memory.now a) }
+// What a load of N bytes brings, BITS bits, sign-extended or zero-extended.
+#[tactic(auto, unfolding(crate::specs::Parts::loaded_of))]
+pub fn loaded<const N: usize, const BITS: u32>(memory: &[u8], a: u32, signed: bool) -> u32
+    requires within { a + N ≤ length memory.now }
+    requires bytes { N ≤ 4 }
+    requires some { 0 < BITS }
+    requires bits { BITS ≤ 32 }
+    ensures { result ≡ Spec.loaded_of BITS signed (load_of N memory.now a) }
 {
-    let x = word::bytes::load8(memory, a as usize);
+    let x = word::bytes::load::<N>(memory, a as usize);
     if signed {
-        return word::number::extend8(x);
+        word::number::extend::<BITS>(x)
+    } else {
+        x
     }
-    x
 }
 
-pub fn half(memory: &[u8], a: u32, signed: bool) -> u32
-    requires { a + 2 ≤ length memory.now }
-    ensures { result ≡ Spec.loaded_of 16 signed (load_of 2 memory.now a) }
+pub fn store<const N: usize>(memory: &mut [u8], a: u32, v: u32, c: Special) -> Special
+    requires within { a + N ≤ length memory.old }
+    requires bytes { N ≤ 4 }
+    ensures { (memory.new ≡ store_of N memory.old a v) × (result ≡ Spec.advance_of c) }
 {
-    let x = word::bytes::load16(memory, a as usize);
-    if signed {
-        return word::number::extend16(x);
-    }
-    x
-}
-
-pub fn word_at(memory: &[u8], a: u32) -> u32
-    requires { a + 4 ≤ length memory.now }
-    ensures { result ≡ load_of 4 memory.now a }
-{
-    word::bytes::load32(memory, a as usize)
-}
-
-pub fn store_byte(memory: &mut [u8], a: u32, v: u32, c: Special) -> Special
-    requires { a + 1 ≤ length memory.old }
-    ensures { (memory.new ≡ store_of 1 memory.old a v) × (result ≡ Spec.advance_of c) }
-{
-    word::bytes::store8(memory, a as usize, v);
-    advance(c)
-}
-
-pub fn store_half(memory: &mut [u8], a: u32, v: u32, c: Special) -> Special
-    requires { a + 2 ≤ length memory.old }
-    ensures { (memory.new ≡ store_of 2 memory.old a v) × (result ≡ Spec.advance_of c) }
-{
-    word::bytes::store16(memory, a as usize, v);
-    advance(c)
-}
-
-pub fn store_word(memory: &mut [u8], a: u32, v: u32, c: Special) -> Special
-    requires { a + 4 ≤ length memory.old }
-    ensures { (memory.new ≡ store_of 4 memory.old a v) × (result ≡ Spec.advance_of c) }
-{
-    word::bytes::store32(memory, a as usize, v);
+    word::bytes::store::<N>(memory, a as usize, v);
     advance(c)
 }
 
@@ -161,29 +124,6 @@ pub fn store_linked(
     requires { (r < 2 ^ 5) × (a + 4 ≤ length memory.old) }
     ensures { Spec.parts registers.new result memory.new ≡ Spec.parts (Spec.put_of registers.old r 1) (Spec.linked_of (Spec.advance_of c) false) (store_of 4 memory.old a v) }
 {
-    word::bytes::store32(memory, a as usize, v);
+    word::bytes::store::<4>(memory, a as usize, v);
     linked(write(registers, r, 1, c), false)
-}
-
-// The last access is kept in two words, which only the arms of accesses write: that keeps the loop of a run quick.
-pub fn touch(last: &mut [u32; 2], address: u32, code: u32, c: Special) -> Special
-    ensures { (last.new ≡ set (set last.old 0 address) 1 code) × (result ≡ c) }
-{
-    last[0] = address;
-    last[1] = code;
-    c
-}
-
-// The access that these two words hold.
-#[tactic(auto, using(crate::proofs::Last::holds_none, crate::proofs::Last::holds_load, crate::proofs::Last::holds_store))]
-pub fn touched(address: u32, code: u32) -> Touched
-    ensures { result ≡ touched_in address code }
-{
-    if code == 0 {
-        return Touched::Nothing;
-    }
-    if code % 2 == 0 {
-        return Touched::Load(address, code / 2);
-    }
-    Touched::Store(address, code / 2)
 }

@@ -5,29 +5,24 @@ use mathlib.Core.Bool.{Bool, true, false, not, ◌&&◌}
 use native.Mathlib.Omega.{arith}
 use lib.Dec.{eqb}
 use borrow.Author.Tests.{eqb-true, eq-eqb}
+use Rattle.std.specs.Prelude.{Option, Some, None}
 use Rattle.word.specs.declared.field.Fields.{Fields}
 use Rattle.word.specs.Field.{cut_of, join_of, Fit}
 use Rattle.word.proofs.Fields.{cut_fit, join_cut}
 use Rattle.word.proofs.Choice.{both}
+use Rattle.isa.specs.declared.kind.Instruction.{Instruction}
 use Rattle.isa.specs.declared.kind.Branch.TheVariants.{J}
 use Rattle.isa.specs.declared.kind.System.TheVariants.{Syscall}
 use Rattle.isa.specs.declared.kind.Kind.{Kind}
 use Rattle.isa.specs.declared.kind.Kind.TheVariants as K
-use Rattle.isa.specs.declared.reading.Reading.{Reading}
-use Rattle.isa.specs.declared.reading.Reading.TheVariants.{Legal, NoInstruction}
 use Rattle.isa.specs.Reading.{fits, decode_of, read_fields, read_of}
 use Rattle.class.specs.Class.{class_of}
 use Rattle.branch.specs.Branch.{region_of}
 use Rattle.layout.specs.declared.Layout.{Layout}
-use Rattle.view.specs.View.{is_region, seen, view_of, word_view}
+use Rattle.layout.proofs.Sizes.{same_test}
+use Rattle.view.specs.View.{passes, is_region, seen, view_of, word_view}
 use Rattle.quick.proofs.Guards.{both_are, told_both}
 use Rattle.profile.specs.Rules.{is_last_bundle, is_syscall_kind, syscalls0, is_syscall0, is_back}
-
--- two tests, of which each holds where the other does
-same_test : (a b : Bool) → (a ≡ true → b ≡ true) → (b ≡ true → a ≡ true) → a ≡ b
-same_test true b p q = sym (p refl)
-same_test false true p q = q refl
-same_test false false p q = refl
 
 -- all fields but the opcode, as one number
 abbrev lower : Fields → ℕ
@@ -45,9 +40,9 @@ module _ (w : ℕ) (h : w < 2 ^ 32) where
 
   -- ---- SYSCALL with code 0
 
-  syscall_both : (x : Reading) → syscalls0 x ≡ both_are is_syscall_kind (λ i. eqb i.value 0) x
-  syscall_both (Legal i) = refl
-  syscall_both NoInstruction = refl
+  syscall_both : (x : Option Instruction) → syscalls0 x ≡ both_are is_syscall_kind (λ i. eqb i.value 0) x
+  syscall_both (Some i) = refl
+  syscall_both None = refl
 
   pub syscall0_told : eqb w 12 ≡ is_syscall0 w
   unfolding is_syscall0 read_of fits decode_of
@@ -71,12 +66,12 @@ module _ (w : ℕ) (h : w < 2 ^ 32) where
     abbrev leads_back : ℕ → Bool
     leads_back v = is_last_bundle l (region_of (l.code_base + 4 * i) v)
 
-    back_both : (x : Reading) → is_back l i (view_of x) ≡ both_are is_jump (λ y. leads_back y.value) x
+    back_both : (x : Option Instruction) → passes (is_back l i) (view_of x) ≡ both_are is_jump (λ y. leads_back y.value) x
     unfolding is_back seen
-    back_both (Legal y) = refl
-    back_both NoInstruction = refl
+    back_both (Some y) = refl
+    back_both None = refl
 
-    pub back_told : eqb (w / 2 ^ 26) 2 && leads_back (w % 2 ^ 26) ≡ is_back l i (word_view w)
+    pub back_told : eqb (w / 2 ^ 26) 2 && leads_back (w % 2 ^ 26) ≡ passes (is_back l i) (word_view w)
     unfolding word_view read_of fits decode_of
     back_told =
         rw (back_both (read_fields (cut_of w)), told_both is_jump (K.Branch J) tt (λ y. leads_back y.value) (cut_of w))

@@ -5,6 +5,7 @@ use mathlib.Core.Bool.{Bool, true, false, cond, not, ◌&&◌, ◌||◌, false�
 use native.Mathlib.Omega.{arith}
 use lib.Dec.{T, eqb, eqb→eq}
 use borrow.Author.Tests.{eq-eqb, eqb-true}
+use Rattle.std.specs.Prelude.{Option, Some, None}
 use Rattle.word.specs.declared.field.Fields.{Fields}
 use Rattle.word.specs.Field.{cut_of, Fit}
 use Rattle.word.proofs.Choice as Choice
@@ -14,8 +15,6 @@ use Rattle.isa.specs.declared.kind.Branch.TheVariants.{J, Jal, Jr, Jalr}
 use Rattle.isa.specs.declared.kind.Kind.{Kind}
 use Rattle.isa.specs.declared.kind.Kind.TheVariants as K
 use Rattle.isa.specs.declared.kind.Instruction.{Instruction}
-use Rattle.isa.specs.declared.reading.Reading.{Reading}
-use Rattle.isa.specs.declared.reading.Reading.TheVariants.{Legal, NoInstruction}
 use Rattle.isa.specs.declared.format.Role.{Role}
 use Rattle.isa.specs.declared.format.Role.TheVariants.{Operand, Control, Fixed, Code, Part}
 use Rattle.isa.specs.Table.{row_of, instructions}
@@ -27,7 +26,9 @@ use Rattle.isa.proofs.Roles.{is_true}
 use Rattle.isa.proofs.Drawings.{matched}
 use Rattle.isa.proofs.ByKey.{not_so, came, read_fits}
 use Rattle.isa.proofs.Members.{split_or}
-use Rattle.view.specs.View.{is_region, is_register, seen, view_of, word_view, is_jump, needs_guard}
+use Rattle.view.specs.declared.View.{View}
+use Rattle.view.specs.View as V
+use Rattle.view.specs.View.{is_region, is_register, seen, view_of, word_view, passes, is_jump, needs_guard}
 use Rattle.view.specs.Guard.{is_mask, is_merge, masks, merges, is_mask_of, mask_in, is_merge_of}
 use Rattle.table.specs.Tables as Tables
 use Rattle.quick.specs.Set.{is_in}
@@ -36,9 +37,9 @@ use Rattle.quick.proofs.Sets.{leads, led}
 
 -- ---- a test of the kind that is read
 
-abbrev pub kind_is : (Kind → Bool) → Reading → Bool
-kind_is t (Legal i) = t i.kind
-kind_is t NoInstruction = false
+abbrev pub kind_is : (Kind → Bool) → Option Instruction → Bool
+kind_is t (Some i) = t i.kind
+kind_is t None = false
 
 module _ (f : Fields) where
   -- the test holds where fields that pass it by their kind are read
@@ -51,11 +52,11 @@ module _ (f : Fields) where
   unfolding decode_of
   told_false t h = go (read_fields f) refl
     where
-      go : (r : Reading) → read_fields f ≡ r → kind_is t r ≡ false
-      go (Legal i) e =
+      go : (r : Option Instruction) → read_fields f ≡ r → kind_is t r ≡ false
+      go (Some i) e =
           let c = came f i e in
           not_so (t i.kind) (λ q. h c.kind c.fit (ap t (ap (λ (x : Instruction). x.kind) c.same) ∙ is_true (t i.kind) q))
-      go NoInstruction e = refl
+      go None e = refl
 
   -- the test of one kind
   pub told_kind : (j : Kind) → kind_is (is j) (read_fields f) ≡ fits_kind j f
@@ -125,9 +126,9 @@ module _ (f : Fields) (fit : Fit f) where
   told_register : kind_is by_register (read_fields f) ≡ fits_kind (K.Branch Jr) f || fits_kind (K.Branch Jalr) f
   told_register = two (read_fields f) ∙ (rw (told_kind f (K.Branch Jr), told_kind f (K.Branch Jalr)))
     where
-      two : (r : Reading) → kind_is by_register r ≡ kind_is (is (K.Branch Jr)) r || kind_is (is (K.Branch Jalr)) r
-      two (Legal i) = same_test (λ k. is (K.Branch Jr) k || is (K.Branch Jalr) k) by_register tt i.kind
-      two NoInstruction = refl
+      two : (r : Option Instruction) → kind_is by_register r ≡ kind_is (is (K.Branch Jr)) r || kind_is (is (K.Branch Jalr)) r
+      two (Some i) = same_test (λ k. is (K.Branch Jr) k || is (K.Branch Jalr) k) by_register tt i.kind
+      two None = refl
 
   -- J and JAL
   told_region : kind_is in_region (read_fields f) ≡ eqb f.op 2 || eqb f.op 3
@@ -135,9 +136,9 @@ module _ (f : Fields) (fit : Fit f) where
   told_region =
       two (read_fields f) ∙ (rw (told_kind f (K.Branch J), told_kind f (K.Branch Jal))) ∙ shorter (eqb f.op 2) (eqb f.op 3)
     where
-      two : (r : Reading) → kind_is in_region r ≡ kind_is (is (K.Branch J)) r || kind_is (is (K.Branch Jal)) r
-      two (Legal i) = same_test (λ k. is (K.Branch J) k || is (K.Branch Jal) k) in_region tt i.kind
-      two NoInstruction = refl
+      two : (r : Option Instruction) → kind_is in_region r ≡ kind_is (is (K.Branch J)) r || kind_is (is (K.Branch Jal)) r
+      two (Some i) = same_test (λ k. is (K.Branch J) k || is (K.Branch Jal) k) in_region tt i.kind
+      two None = refl
 
       shorter : (a b : Bool) → (a && true) || (b && true) ≡ a || b
       shorter true b = refl
@@ -145,66 +146,70 @@ module _ (f : Fields) (fit : Fit f) where
       shorter false false = refl
 
 -- what a view says of the kind that was read
-module _ (r : Reading) where
-  access_view : not (eqb (view_of r).width 0) ≡ kind_is accesses r
+module _ (r : Option Instruction) where
+  access_view : passes (λ v. not (eqb v.width 0)) (view_of r) ≡ kind_is accesses r
   unfolding seen
   access_view = go r
     where
-      go : (r : Reading) → not (eqb (view_of r).width 0) ≡ kind_is accesses r
-      go (Legal i) = refl
-      go NoInstruction = refl
+      go : (r : Option Instruction) → passes (λ v. not (eqb v.width 0)) (view_of r) ≡ kind_is accesses r
+      go (Some i) = refl
+      go None = refl
 
-  register_view : (view_of r).register ≡ kind_is by_register r
+  register_view : passes V.by_register (view_of r) ≡ kind_is by_register r
   unfolding seen
   register_view = go r
     where
-      go : (r : Reading) → (view_of r).register ≡ kind_is by_register r
-      go (Legal i) = refl
-      go NoInstruction = refl
+      go : (r : Option Instruction) → passes V.by_register (view_of r) ≡ kind_is by_register r
+      go (Some i) = refl
+      go None = refl
 
-  region_view : (view_of r).region ≡ kind_is in_region r
+  region_view : passes (λ v. is_region v.flow) (view_of r) ≡ kind_is in_region r
   unfolding seen
   region_view = go r
     where
-      go : (r : Reading) → (view_of r).region ≡ kind_is in_region r
-      go (Legal i) = refl
-      go NoInstruction = refl
+      go : (r : Option Instruction) → passes (λ v. is_region v.flow) (view_of r) ≡ kind_is in_region r
+      go (Some i) = refl
+      go None = refl
+
+either_passes : (t u : View → Bool) (o : Option View) → passes (λ v. t v || u v) o ≡ passes t o || passes u o
+either_passes t u (Some v) = refl
+either_passes t u None = refl
 
 module _ (w : ℕ) {f : Fields} (e : f ≡ cut_of w) (fit : Fit f) where
   pub register_jump : eqb f.op 0 && (eqb f.rt 0 && (eqb f.rd 0 && (eqb f.shift 0 && eqb f.funct 8))) || eqb f.op 0 && (eqb f.rt 0 && (eqb f.shift 0 && eqb f.funct 9))
-      ≡ (word_view w).register
+      ≡ passes V.by_register (word_view w)
   unfolding word_view read_of fits
   register_jump = rw (← e, register_view (read_fields f), told_register f fit)
 
-  pub needs_guard_law : (set : ℕ) {a b : Bool} → a ≡ is_in set f.op → b ≡ (word_view w).register
+  pub needs_guard_law : (set : ℕ) {a b : Bool} → a ≡ is_in set f.op → b ≡ passes V.by_register (word_view w)
       → T (leads set Tables.opcode (λ k. accesses k && settles_all (opcode any) (drawing_for k))) → T (every (holds_access set) instructions)
-      → a || b ≡ needs_guard (word_view w)
+      → a || b ≡ passes needs_guard (word_view w)
   unfolding word_view read_of
-  needs_guard_law set p q h inside = rw (p, q, ← e, access_view (read_fields f), told_access f fit set h inside)
+  needs_guard_law set p q h inside = rw (p, q, ← e, either_passes (λ v. not (eqb v.width 0)) V.by_register, access_view (read_fields f), told_access f fit set h inside)
 
-  pub jumps : {b : Bool} → b ≡ (word_view w).register → (eqb f.op 2 || eqb f.op 3) || b ≡ is_jump (word_view w)
+  pub jumps : {b : Bool} → b ≡ passes V.by_register (word_view w) → (eqb f.op 2 || eqb f.op 3) || b ≡ passes is_jump (word_view w)
   unfolding word_view read_of
-  jumps q = rw (q, ← e, region_view (read_fields f), told_region f fit)
+  jumps q = rw (q, ← e, either_passes (λ v. is_region v.flow) V.by_register, region_view (read_fields f), told_region f fit)
 
 -- ---- words of a guard
 
 -- one kind, and a test of the instruction beside it
-abbrev pub both_are : (Kind → Bool) → (Instruction → Bool) → Reading → Bool
-both_are t u (Legal i) = t i.kind && u i
-both_are t u NoInstruction = false
+abbrev pub both_are : (Kind → Bool) → (Instruction → Bool) → Option Instruction → Bool
+both_are t u (Some i) = t i.kind && u i
+both_are t u None = false
 
 module _ (t : Kind → Bool) (j : Kind) (h : T (every (λ k. cond (t k) (is j k) (not (is j k))) instructions)) (u : Instruction → Bool) (f : Fields) where
   pub told_both : both_are t u (read_fields f) ≡ fits_kind j f && u (decode_of j (drawing_for j) f)
   unfolding decode_of
   told_both = go (fits_kind j f) refl
     where
-      sole : (r : Reading) → kind_is (is j) r ≡ kind_is t r
-      sole (Legal i) = same_test t (is j) h i.kind
-      sole NoInstruction = refl
+      sole : (r : Option Instruction) → kind_is (is j) r ≡ kind_is t r
+      sole (Some i) = same_test t (is j) h i.kind
+      sole None = refl
 
-      fails : (r : Reading) → kind_is t r ≡ false → both_are t u r ≡ false
-      fails (Legal i) q = rw q
-      fails NoInstruction q = refl
+      fails : (r : Option Instruction) → kind_is t r ≡ false → both_are t u r ≡ false
+      fails (Some i) q = rw q
+      fails None q = refl
 
       go : (b : Bool) → fits_kind j f ≡ b → both_are t u (read_fields f) ≡ b && u (decode_of j (drawing_for j) f)
       go true e =
@@ -215,9 +220,9 @@ module _ (w : ℕ) {f : Fields} (e : f ≡ cut_of w) where
   abbrev andi : Kind
   andi = K.Immediate Andi
 
-  mask_both : (r : ℕ) (x : Reading) → masks r x ≡ both_are is_mask (λ i. eqb i.rt r) x
-  mask_both r (Legal i) = refl
-  mask_both r NoInstruction = refl
+  mask_both : (r : ℕ) (x : Option Instruction) → masks r x ≡ both_are is_mask (λ i. eqb i.rt r) x
+  mask_both r (Some i) = refl
+  mask_both r None = refl
 
   pub mask_told : (r : ℕ) → eqb f.op 12 && eqb f.rt r ≡ is_mask_of r w
   unfolding is_mask_of read_of fits decode_of
@@ -228,9 +233,9 @@ module _ (w : ℕ) {f : Fields} (e : f ≡ cut_of w) where
       shorter true = refl
       shorter false = refl
 
-  merge_both : (base r : ℕ) (x : Reading) → merges base r x ≡ both_are is_merge (λ i. eqb i.rd r && (eqb i.rs r && eqb i.rt base)) x
-  merge_both base r (Legal i) = refl
-  merge_both base r NoInstruction = refl
+  merge_both : (base r : ℕ) (x : Option Instruction) → merges base r x ≡ both_are is_merge (λ i. eqb i.rd r && (eqb i.rs r && eqb i.rt base)) x
+  merge_both base r (Some i) = refl
+  merge_both base r None = refl
 
   pub merge_told : (base r : ℕ)
       → (eqb f.op 0 && (eqb f.shift 0 && eqb f.funct 37)) && (eqb f.rd r && (eqb f.rs r && eqb f.rt base)) ≡ is_merge_of base r w

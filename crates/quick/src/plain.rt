@@ -1,10 +1,10 @@
 // Plain words: instructions that break none of 8 to 15, wherever they stand. Most words of a module are plain.
 ghost use Rattle.std.specs.Prelude.{◌≡◌, true};
 ghost use Rattle.word.specs.Field.{Fit};
-ghost use Rattle.view.specs.View as View;
 ghost use Rattle.quick.specs.Plain.{Plain, PlainWord};
 
 use crate::set;
+use view::is_base;
 use word::field::Fields;
 
 // By the function, for opcode SPECIAL.
@@ -23,12 +23,6 @@ const FULL: u64 = 0x005f000000001000;
 const CONSTANTS: u64 = 0x0000000000007f00;
 
 const LUI: u32 = 15;
-
-fn is_base(r: u32) -> bool
-    ensures { result ≡ View.is_base r }
-{
-    (r == 26) | (r == 27)
-}
 
 fn is_plain_special(f: Fields) -> bool
     requires { Fit f × (f.op ≡ 0) }
@@ -52,7 +46,7 @@ fn is_plain_special(f: Fields) -> bool
 pub fn is_plain(w: u32) -> bool
     ensures { result ≡ true → PlainWord w }
 {
-    let f = word::field::cut(w);
+    let f = Fields::from(w);
     if f.op == 0 {
         return is_plain_special(f);
     }

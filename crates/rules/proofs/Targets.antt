@@ -11,12 +11,12 @@ use Rattle.branch.specs.Branch.{relative_of, region_of}
 use Rattle.branch.proofs.Targets.{relative_aligned, region_aligned}
 use Rattle.layout.specs.declared.Layout.{Layout}
 use Rattle.view.specs.declared.View.{View}
-use Rattle.view.specs.View.{word_view, needs_guard}
+use Rattle.view.specs.View.{word_view, passes, is_relative, is_region, needs_guard}
 use Rattle.rules.specs.Rules.{Sized, word_at, view_at, target_of, is_entry, lands, broken15}
 use Rattle.rules.specs.Not.{Not}
 
-pub entry_is : (img : List ℕ) (i : ℕ) {v w : ℕ} {s t : Bool} → v ≡ word_at img i → s ≡ needs_guard (word_view v) → w ≡ word_at img (i + 1)
-    → t ≡ needs_guard (word_view w) → not s && not t ≡ is_entry img i
+pub entry_is : (img : List ℕ) (i : ℕ) {v w : ℕ} {s t : Bool} → v ≡ word_at img i → s ≡ passes needs_guard (word_view v) → w ≡ word_at img (i + 1)
+    → t ≡ passes needs_guard (word_view w) → not s && not t ≡ is_entry img i
 unfolding is_entry view_at
 entry_is img i p q r s = rw (s, r, q, p)
 
@@ -46,17 +46,9 @@ module _ (l : Layout) (img : List ℕ) (t : ℕ) where
       lands_inside q e =
           rw (le-leb l.code_base t h, lt-ltb t (l.code_base + l.code_size) (omega arith), ne_eqb (t + 4) (l.code_base + l.code_size) (λ z. q (omega arith)), ← e)
 
-pub to_relative : (v : View) (pc : ℕ) {t : ℕ} → v.relative ≡ true → t ≡ relative_of pc v.value → t ≡ target_of v pc
-unfolding target_of
-to_relative v pc h e = rw (h, e)
-
-pub to_region : (v : View) (pc : ℕ) {t : ℕ} → v.relative ≡ false → t ≡ region_of pc v.value → t ≡ target_of v pc
-unfolding target_of
-to_region v pc h e = rw (h, e)
-
 pub target_aligned : (v : View) (pc : ℕ) → Aligned pc → target_of v pc % 4 ≡ 0
 unfolding target_of
-target_aligned v pc h = go v.relative
+target_aligned v pc h = go (is_relative v.flow)
   where
     go : (b : Bool) → cond b (relative_of pc v.value) (region_of pc v.value) % 4 ≡ 0
     go true = (relative_aligned v.value h).1
@@ -67,11 +59,11 @@ pub pc_aligned : (l : Layout) (img : List ℕ) (i : ℕ) → Sized l img → 4 *
 pc_aligned l img i s h = (omega (arith, s.length_is, s.inside), omega (arith, s.aligned))
 
 module _ (l : Layout) (img : List ℕ) (i : ℕ) (v : View) where
-  pub direct : {t : ℕ} {b : Bool} → v.relative || v.region ≡ true → t ≡ target_of v (l.code_base + 4 * i) → b ≡ lands l img t
+  pub direct : {t : ℕ} {b : Bool} → is_relative v.flow || is_region v.flow ≡ true → t ≡ target_of v (l.code_base + 4 * i) → b ≡ lands l img t
       → not b ≡ broken15 l img i v
   unfolding broken15
   direct h e f = rw (h, f, e)
 
-  pub not_direct : v.relative || v.region ≡ false → false ≡ broken15 l img i v
+  pub not_direct : is_relative v.flow || is_region v.flow ≡ false → false ≡ broken15 l img i v
   unfolding broken15
   not_direct h = rw h

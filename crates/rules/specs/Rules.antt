@@ -1,10 +1,10 @@
--- The rules of words as tests, 10 to 15 (document 01, Module and its guards; Refusal table); 8 and 9 are `legal` and `barred` of the view. img is the image, i a word's index.
-use Rattle.std.specs.Prelude.{ℕ, ◌+◌, ◌-◌, ◌*◌, ◌/◌, ◌%◌, ◌≤◌, Bool, false, cond, not, ◌&&◌, ◌||◌, ◌≡◌, List, eqb, leb, ltb, ℤ, pos, negsuc, length}
+-- The rules of words as tests, 10 to 15 (document 01, Module and its guards; Refusal table); 8 is that there is no view, 9 is `barred` of the view. img is the image, i a word's index.
+use Rattle.std.specs.Prelude.{ℕ, ◌+◌, ◌-◌, ◌*◌, ◌/◌, ◌%◌, ◌≤◌, Bool, false, cond, not, ◌&&◌, ◌||◌, ◌≡◌, List, Option, Some, None, eqb, leb, ltb, ℤ, pos, negsuc, length}
 use Rattle.word.specs.Bytes.{load_of, longest}
 use Rattle.branch.specs.Branch.{relative_of, region_of}
 use Rattle.layout.specs.declared.Layout.{Layout}
 use Rattle.view.specs.declared.View.{View}
-use Rattle.view.specs.View.{nothing, word_view, is_branch, needs_guard, is_base}
+use Rattle.view.specs.View.{word_view, passes, is_relative, is_region, is_register, is_branch, needs_guard, is_base}
 use Rattle.view.specs.Guard.{is_mask_of, mask_in, is_merge_of}
 use Rattle.rules.specs.Offset.{offset_of}
 
@@ -20,12 +20,12 @@ pub record Sized (l : Layout) (img : List ℕ) : Type 0 where
 abbrev pub word_at : List ℕ → ℕ → ℕ
 word_at img i = load_of 4 img (4 * i)
 
-unfoldable pub view_at : List ℕ → ℕ → View
+unfoldable pub view_at : List ℕ → ℕ → Option View
 view_at img i = word_view (word_at img i)
 
--- the word before word i; nothing before the first
-unfoldable pub view_before : List ℕ → ℕ → View
-view_before img i = cond (leb 1 i) (view_at img (i - 1)) nothing
+-- the word before word i; none before the first
+unfoldable pub view_before : List ℕ → ℕ → Option View
+view_before img i = cond (leb 1 i) (view_at img (i - 1)) None
 
 -- ---- rules of one word
 
@@ -35,7 +35,7 @@ broken10 v = is_base v.written
 
 -- JALR with rd = rs, or a linking branch with rs = 31
 unfoldable pub broken11 : View → Bool
-broken11 v = v.link && (v.register && eqb v.rd v.rs || v.relative && eqb v.rs 31)
+broken11 v = v.link && (is_register v.flow && eqb v.rd v.rs || is_relative v.flow && eqb v.rs 31)
 
 -- ---- guards
 
@@ -55,6 +55,10 @@ mask_at img i = mask_in (word_at img (i - 2))
 abbrev pub in_bundle : ℕ → Bool
 in_bundle i = leb 2 (i % 4)
 
+-- the mask of the guard before word i, where there is one
+unfoldable pub guard_mask : List ℕ → ℕ → ℕ → ℕ → Option ℕ
+guard_mask img i base r = cond (in_bundle i && is_guarded_at img i base r) (Some (mask_at img i)) None
+
 -- mask m and offset are multiples of the width w, the offset isn't negative, and m + offset + w is at most the data size
 unfoldable pub fits_data : ℕ → ℕ → ℤ → ℕ → Bool
 fits_data size m (pos o) w = eqb (m % w) 0 && (eqb (o % w) 0 && leb (m + o + w) size)
@@ -72,7 +76,7 @@ broken12 size img i v =
 
 -- JR or JALR without fitting guard
 unfoldable pub broken13 : ℕ → List ℕ → ℕ → View → Bool
-broken13 size img i v = v.register && not (in_bundle i && (is_guarded_at img i 27 v.rs && fits_code size (mask_at img i)))
+broken13 size img i v = is_register v.flow && not (in_bundle i && (is_guarded_at img i 27 v.rs && fits_code size (mask_at img i)))
 
 -- ---- branches
 
@@ -82,11 +86,11 @@ broken14 after v = is_branch v && after
 
 -- the direct target of the branch or jump at pc
 unfoldable pub target_of : View → ℕ → ℕ
-target_of v pc = cond v.relative (relative_of pc v.value) (region_of pc v.value)
+target_of v pc = cond (is_relative v.flow) (relative_of pc v.value) (region_of pc v.value)
 
 -- word i is not, and does not come just before, an access, JR or JALR
 unfoldable pub is_entry : List ℕ → ℕ → Bool
-is_entry img i = not (needs_guard (view_at img i)) && not (needs_guard (view_at img (i + 1)))
+is_entry img i = not (passes needs_guard (view_at img i)) && not (passes needs_guard (view_at img (i + 1)))
 
 -- target t is inside the code, not on the last word, and an entry
 unfoldable pub lands : Layout → List ℕ → ℕ → Bool
@@ -97,4 +101,4 @@ lands l img t =
 
 -- direct target where a branch may not lead
 unfoldable pub broken15 : Layout → List ℕ → ℕ → View → Bool
-broken15 l img i v = (v.relative || v.region) && not (lands l img (target_of v (l.code_base + 4 * i)))
+broken15 l img i v = (is_relative v.flow || is_region v.flow) && not (lands l img (target_of v (l.code_base + 4 * i)))

@@ -5,3 +5,4 @@ pub mod guard;
 pub mod image;
 pub mod landing;
 pub mod single;
+pub mod site;

@@ -1,3 +1,2 @@
-pub mod Integers
 pub mod Words
-pub mod Order
+pub mod Sums

@@ -1,107 +1,96 @@
--- What unsigned arithmetic says of the signed integers that words stand for.
-use Rattle.std.proofs.Common.{◌≡◌, ℕ, zero, suc, ◌+◌, ◌-◌, ◌*◌, ◌/◌, ◌%◌, ◌^◌, ◌<◌, ◌≤◌, eqb, ltb, ℤ, pos, negsuc, ◌+ℤ◌, ◌-ℤ◌, neg_ℤ, nat_abs, sym, refl, ap, ◌∙◌, ⊎_elim, mod-eq_of_lt, mul-le-mul, div-le_self, arith, le-ltb, lt-ltb}
-use lib.Bits.{bit_xor, xor_zero_r, xor_add_and, and_mask}
-use lib.Signed.{lt_z, shr_z, non_neg}
-use Rattle.word.specs.Number.{signed_of, fits_of, wrap_of, sum_of, difference_of}
+-- Words as the library casts them to signed integers and back.
+use Rattle.std.proofs.Common.{◌≡◌, ℕ, zero, suc, ◌/◌, ◌^◌, ◌<◌, ◌≤◌, true, false, ℤ, pos, negsuc, ◌*ℤ◌, neg_ℤ, ◌∙◌, ⊎_elim, div-le_self, arith, le-ltb, lt-ltb, le-leb, to_z, of_z, Some, None}
+use mir.Val.{SFits}
+use borrow.Author.Tests.{lt-leb}
+use Rattle.std.specs.Int.{w32, w64}
+use Rattle.std.specs.Int.Signed.{mag, quot_z, shr_z, mag_shr, nat_abs-le}
+use Rattle.std.proofs.lemmas.Bool.{cases_lt}
+use Rattle.std.proofs.lemmas.Int.{of_z-to_z, to_z-of_z, fits_signed_mul}
+use Rattle.std.proofs.Math.Facts.{sfits_to_z}
+use Rattle.word.specs.Number.{signed_of, fits_of, wrap_of}
 use Rattle.word.proofs.Numbers.{signed_low, signed_high}
-use Rattle.signed.proofs.Integers.{lt_or_ge, Diff, diff_sum, diff_difference, diff_less, diff_fits, diff_wrap}
+use Rattle.signed.specs.Checked.{checked_of}
 
-high : (x : ℕ) → x < 2 ^ 32 → 2 ^ 31 ≤ x → signed_of 32 x ≡ negsuc (0xFFFFFFFF - x)
-high x h l = let e : 2 ^ 32 - suc x ≡ 0xFFFFFFFF - x = omega arith in signed_high 32 x l h ∙ ap negsuc e
+pub signed_word : (x : ℕ) → x < 2 ^ 32 → to_z w32 x ≡ signed_of 32 x
+signed_word x h =
+    ⊎_elim
+    (λ l. rw (signed_low 32 x l, lt-ltb x (2 ^ 31) l))
+    (λ l. rw (signed_high 32 x l h, le-ltb x (2 ^ 31) l))
+    (cases_lt x (2 ^ 31))
 
--- a fact of a word, by its top bit
-by_sign : (P : ℤ → Type 0) (x : ℕ) → x < 2 ^ 32 → (x < 2 ^ 31 → P (pos x)) → (2 ^ 31 ≤ x → P (negsuc (0xFFFFFFFF - x))) → P (signed_of 32 x)
-by_sign P x h f g = ⊎_elim (λ l. rw (signed_low 32 x l) (f l)) (λ l. rw (high x h l) (g l)) (lt_or_ge x (2 ^ 31))
+signed_below : (x : ℕ) → x < 2 ^ 32 → mag (signed_of 32 x) < 2 ^ 31
+signed_below x h = rw (← signed_word x h) (sfits_to_z {w = w32} {n = x} (record { fits = h })).sfits
 
--- the word less 2^32 where its top bit is set
-top_diff : (x : ℕ) → x < 2 ^ 32 → Diff (signed_of 32 x) x (x / 2 ^ 31 * 2 ^ 32)
-top_diff x h = by_sign (λ (z : ℤ). Diff z x (x / 2 ^ 31 * 2 ^ 32)) x h (λ l. omega arith) (λ l. omega arith)
+wrap_word : (z : ℤ) → mag z < 2 ^ 32 → of_z w32 z ≡ wrap_of 32 z
+wrap_word (pos n) h = omega arith
+wrap_word (negsuc n) h = omega arith
 
--- the word with its top bit flipped, less 2^31
-biased_diff : (x : ℕ) → x < 2 ^ 32 → Diff (signed_of 32 x) (sum_of x (2 ^ 31)) (2 ^ 31)
-biased_diff x h = by_sign (λ (z : ℤ). Diff z (sum_of x (2 ^ 31)) (2 ^ 31)) x h (λ l. omega arith) (λ l. omega arith)
+wrap_double : (z : ℤ) → mag z < 2 ^ 64 → of_z w64 z ≡ wrap_of 64 z
+wrap_double (pos n) h = omega arith
+wrap_double (negsuc n) h = omega arith
 
-module _ (a b : ℕ) (ha : a < 2 ^ 32) (hb : b < 2 ^ 32) where
-  pub less_words : ltb (sum_of a (2 ^ 31)) (sum_of b (2 ^ 31)) ≡ lt_z (signed_of 32 a) (signed_of 32 b)
-  less_words = diff_less _ _ _ (signed_of 32 a) (signed_of 32 b) (biased_diff a ha) (biased_diff b hb)
+-- the word that the code casts a signed integer to
+pub cast_word : (z : ℤ) → mag z < 2 ^ 31 → of_z w32 (to_z w32 (of_z w32 z)) ≡ wrap_of 32 z
+cast_word z h = rw (to_z-of_z w32 z (record { sfits = h })) (wrap_word z (omega arith))
 
-  pub sum_fits : eqb ((sum_of a (2 ^ 31) + sum_of b (2 ^ 31) + 2 ^ 31) / 2 ^ 32 % 2) 1 ≡ fits_of 32 (signed_of 32 a +ℤ signed_of 32 b)
-  sum_fits =
-      let s : ℕ = sum_of a (2 ^ 31) in
-      let t : ℕ = sum_of b (2 ^ 31) in
-      diff_fits (s + t) (2 ^ 31 + 2 ^ 31) (s + t + 2 ^ 31) (signed_of 32 a +ℤ signed_of 32 b)
-      (diff_sum s (2 ^ 31) t (2 ^ 31) (signed_of 32 a) (signed_of 32 b) (biased_diff a ha) (biased_diff b hb))
-      (omega arith)
-      (omega arith)
+cast_double : (z : ℤ) → mag z < 2 ^ 63 → of_z w64 (to_z w64 (of_z w64 z)) ≡ wrap_of 64 z
+cast_double z h = rw (to_z-of_z w64 z (record { sfits = h })) (wrap_double z (omega arith))
 
-  pub difference_fits : eqb ((sum_of a (2 ^ 31) + 0x180000000 - sum_of b (2 ^ 31)) / 2 ^ 32 % 2) 1 ≡ fits_of 32 (signed_of 32 a -ℤ signed_of 32 b)
-  difference_fits =
-      let s : ℕ = sum_of a (2 ^ 31) in
-      let t : ℕ = sum_of b (2 ^ 31) in
-      diff_fits (s + 2 ^ 31) (2 ^ 31 + t) (s + 0x180000000 - t) (signed_of 32 a -ℤ signed_of 32 b)
-      (diff_difference s (2 ^ 31) t (2 ^ 31) (signed_of 32 a) (signed_of 32 b) (biased_diff a ha) (biased_diff b hb))
-      (omega arith)
-      (omega arith)
+-- ---- sums that fit
 
-  pub sum_word : wrap_of 32 (signed_of 32 a +ℤ signed_of 32 b) ≡ sum_of a b
-  sum_word =
-      let qa : ℕ = a / 2 ^ 31 in
-      let qb : ℕ = b / 2 ^ 31 in
-      let d : Diff (signed_of 32 a +ℤ signed_of 32 b) (a + b) (qa * 2 ^ 32 + qb * 2 ^ 32) =
-      diff_sum a (qa * 2 ^ 32) b (qb * 2 ^ 32) (signed_of 32 a) (signed_of 32 b) (top_diff a ha) (top_diff b hb) in
-      let e : a + b ≡ a + b + 0 * 2 ^ 32 = omega arith in
-      let f : qa * 2 ^ 32 + qb * 2 ^ 32 ≡ (qa + qb) * 2 ^ 32 + 0 = omega arith in
-      diff_wrap (a + b) 0 0 (qa + qb) (signed_of 32 a +ℤ signed_of 32 b) (omega arith) (rw (← e, ← f) d) ∙ omega arith
+fits_true : (z : ℤ) → mag z < 2 ^ 31 → fits_of 32 z ≡ true
+fits_true (pos n) h = lt-ltb n (2 ^ 31) h
+fits_true (negsuc n) h = rw (le-leb n 0x7FFFFFFF (omega arith))
 
-  pub difference_word : wrap_of 32 (signed_of 32 a -ℤ signed_of 32 b) ≡ difference_of a b
-  difference_word =
-      diff_wrap a b (b / 2 ^ 31) (a / 2 ^ 31) (signed_of 32 a -ℤ signed_of 32 b) (omega arith)
-      (diff_difference a (a / 2 ^ 31 * 2 ^ 32) b (b / 2 ^ 31 * 2 ^ 32) (signed_of 32 a) (signed_of 32 b) (top_diff a ha) (top_diff b hb))
+fits_false : (z : ℤ) → 2 ^ 31 ≤ mag z → fits_of 32 z ≡ false
+fits_false (pos n) h = le-ltb n (2 ^ 31) h
+fits_false (negsuc n) h = rw (lt-leb n 0x7FFFFFFF (omega arith))
 
--- ---- sign and size
+checked_some : (z : ℤ) → SFits w32 z → Some (wrap_of 32 z) ≡ checked_of z
+unfolding checked_of
+checked_some z f = rw (fits_true z f.sfits)
 
-module _ (x : ℕ) (h : x < 2 ^ 32) where
-  pub nonnegative_word : ltb x (2 ^ 31) ≡ non_neg (signed_of 32 x)
-  nonnegative_word = by_sign (λ (z : ℤ). ltb x (2 ^ 31) ≡ non_neg z) x h (lt-ltb x (2 ^ 31)) (le-ltb x (2 ^ 31))
+pub checked_none : (z : ℤ) → (SFits w32 z → ⊥) → None ≡ checked_of z
+unfolding checked_of
+checked_none z f = ⊎_elim (λ l. absurd (f (record { sfits = l }))) (λ l. rw (fits_false z l)) (cases_lt (mag z) (2 ^ 31))
 
-  pub size_low : x < 2 ^ 31 → x ≡ nat_abs (signed_of 32 x)
-  size_low l = rw (signed_low 32 x l)
+pub checked_uncast : (z : ℤ) → SFits w32 z → Some (of_z w32 (to_z w32 (of_z w32 z))) ≡ checked_of z
+checked_uncast z f = rw (cast_word z f.sfits) (checked_some z f)
 
-  pub size_high : 2 ^ 31 ≤ x → difference_of 0 x ≡ nat_abs (signed_of 32 x)
-  size_high l = rw (high x h l) (omega arith)
+-- ---- the quotient of -2^31 and -1 alone is no signed word
 
-  pub size_pos : 0 < x → 0 < nat_abs (signed_of 32 x)
-  size_pos p = by_sign (λ (z : ℤ). 0 < nat_abs z) x h (λ l. p) (λ l. omega arith)
+mag_neg : (n : ℕ) → mag (neg_ℤ (pos n)) ≤ n
+mag_neg zero = omega arith
+mag_neg (suc n) = omega arith
 
-pub product_below : (m n : ℕ) → m < 2 ^ 32 → n < 2 ^ 32 → m * n < 2 ^ 64
-product_below m n h k =
-    let hm : m ≤ 0xFFFFFFFF = omega arith in
-    let hn : n ≤ 0xFFFFFFFF = omega arith in
-    omega (arith, mul-le-mul hm hn)
+mag_quot : (a b : ℤ) → mag (quot_z a b) ≤ suc (mag a)
+mag_quot (pos a) (pos b) = omega (arith, div-le_self a b)
+mag_quot (pos a) (negsuc b) = omega (arith, mag_neg (a / suc b), div-le_self a (suc b))
+mag_quot (negsuc a) (pos b) = omega (arith, mag_neg (suc a / b), div-le_self (suc a) b)
+mag_quot (negsuc a) (negsuc b) = omega (arith, div-le_self (suc a) (suc b))
 
-pub minus_word : (n : ℕ) → n < 2 ^ 32 → difference_of 0 n ≡ wrap_of 32 (neg_ℤ (pos n))
-minus_word zero h = refl
-minus_word (suc n) h = omega arith
+bits_below : (z : ℤ) → mag z < 2 ^ 32 → of_z w32 z < 2 ^ 32
+bits_below (pos n) h = h
+bits_below (negsuc n) h = omega arith
 
-pub minus_double : (n r : ℕ) → n < 2 ^ 64 → r < 2 ^ 64 → (r + n) % 2 ^ 64 ≡ 0 → r ≡ wrap_of 64 (neg_ℤ (pos n))
-minus_double zero r h l e = omega arith
-minus_double (suc n) r h l e = omega arith
+pub quotient_word : (a b : ℕ) → a < 2 ^ 32 → of_z w32 (to_z w32 (of_z w32 (quot_z (signed_of 32 a) (signed_of 32 b)))) ≡ wrap_of 32 (quot_z (signed_of 32 a) (signed_of 32 b))
+quotient_word a b h =
+    let q : ℤ = quot_z (signed_of 32 a) (signed_of 32 b) in
+    let l : mag q < 2 ^ 32 = omega (arith, mag_quot (signed_of 32 a) (signed_of 32 b), signed_below a h) in
+    of_z-to_z w32 (of_z w32 q) (bits_below q l) ∙ wrap_word q l
 
--- ---- the shift
+-- ---- products and shifts
 
-complement : (x : ℕ) → x < 2 ^ 32 → bit_xor x 0xFFFFFFFF ≡ 0xFFFFFFFF - x
-complement x h = omega (arith, xor_add_and x 0xFFFFFFFF, and_mask x 32)
+pub product_word : (a b : ℕ) → a < 2 ^ 32 → b < 2 ^ 32 → of_z w64 (to_z w64 (of_z w64 (signed_of 32 a *ℤ signed_of 32 b))) ≡ wrap_of 64 (signed_of 32 a *ℤ signed_of 32 b)
+product_word a b ha hb =
+    let x : ℤ = signed_of 32 a in
+    let y : ℤ = signed_of 32 b in
+    let f : SFits w64 (x *ℤ y) =
+    fits_signed_mul w64 x y (2 ^ 31) (2 ^ 31) (nat_abs-le x (signed_below a ha)) (nat_abs-le y (signed_below b hb)) (omega arith) in
+    cast_double (x *ℤ y) f.sfits
 
-module _ (x m mask : ℕ) (h : x < 2 ^ 32) (e : mask ≡ difference_of 0 (x / 2 ^ 31)) where
-  -- the mask is all ones where x is negative, and all zeros elsewhere
-  pub shift_word : bit_xor (bit_xor x mask / m) mask ≡ wrap_of 32 (shr_z (signed_of 32 x) m)
-  shift_word =
-      by_sign (λ (z : ℤ). bit_xor (bit_xor x mask / m) mask ≡ wrap_of 32 (shr_z z m)) x h
-      (λ l.
-      let zeros : mask ≡ 0 = omega arith in
-      rw (zeros, xor_zero_r x, xor_zero_r (x / m)) (sym (mod-eq_of_lt (omega (arith, div-le_self x m)))))
-      (λ l.
-      let ones : mask ≡ 0xFFFFFFFF = omega arith in
-      let d : (0xFFFFFFFF - x) / m ≤ 0xFFFFFFFF - x = div-le_self (0xFFFFFFFF - x) m in
-      let whole : (0xFFFFFFFF - x) / m % 2 ^ 32 ≡ (0xFFFFFFFF - x) / m = mod-eq_of_lt (omega arith) in
-      rw (ones, complement x h, complement ((0xFFFFFFFF - x) / m) (omega arith)) (omega (arith, whole)))
+pub shift_word : (x m : ℕ) → x < 2 ^ 32 → of_z w32 (to_z w32 (of_z w32 (shr_z (signed_of 32 x) m))) ≡ wrap_of 32 (shr_z (signed_of 32 x) m)
+shift_word x m h = cast_word _ (omega (arith, mag_shr (signed_of 32 x) m, signed_below x h))
+
+-- what the functions are proved by
+pub ruleset casts = (to_z-of_z, signed_word, cast_word, quotient_word, product_word, shift_word, checked_none, checked_uncast)

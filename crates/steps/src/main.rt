@@ -4,42 +4,43 @@
 // in that order, and each byte of memory that changed, by its address.
 #![tactic(auto)]
 
-ghost use Rattle.std.specs.Prelude.{◌+◌, ◌≤◌, ◌<◌, ◌≡◌, length};
+ghost use Rattle.std.specs.Prelude.{◌≤◌};
 
 use std::io;
 use std::io::{Read, Write};
+use word::bytes::load;
 
-// Where the state begins in a case.
-const STATE: usize = 0;
-// Where the memory begins in a case.
+// Where the memory's length, the number of steps and the memory stand in a case.
+const LENGTH: usize = 164;
+
+const COUNT: usize = 168;
+
 const MEMORY: usize = 172;
+// The longest memory of a case.
+const SPACE: usize = 84;
 // More cases are not read.
 const CASES: u32 = 1000000;
 
-fn print_state(out: &mut impl Write, before: &[u8], after: &[u8]) -> io::Result<()>
-    requires { (length before.now ≡ 164) × (length after.now ≡ 164) }
-{
-    for i in 0..41usize {
-        let x = word::bytes::load32(after, 4 * i);
-        if word::bytes::load32(before, 4 * i) != x {
-            write!(out, " {i}={x:08x}")?;
+fn print_state(out: &mut impl Write, case: &[u8; 256], state: &[u8; 164]) -> io::Result<()> {
+    let words = case[..LENGTH].chunks_exact(4).zip(state.chunks_exact(4));
+    for (i, (old, new)) in words.enumerate() {
+        if old != new {
+            write!(out, " {i}={:08x}", load::<4>(new, 0))?;
         }
     }
     Ok(())
 }
 
 fn print_memory(out: &mut impl Write, before: &[u8], after: &[u8]) -> io::Result<()> {
-    for i in 0..after.len() {
-        if i < before.len() {
-            let x = word::bytes::load8(after, i);
-            if word::bytes::load8(before, i) != x {
-                write!(out, " m{i}={x:02x}")?;
-            }
+    for (i, (old, new)) in before.iter().zip(after).enumerate() {
+        if old != new {
+            write!(out, " m{i}={new:02x}")?;
         }
     }
     Ok(())
 }
 
+// The number of the last step.
 fn steps(state: &mut [u8], memory: &mut [u8], count: u32) -> u32 {
     for _ in 0..count {
         let number = cc100_step::cc100_step(state, memory).number;
@@ -50,23 +51,17 @@ fn steps(state: &mut [u8], memory: &mut [u8], count: u32) -> u32 {
     0
 }
 
-fn copy(from: &[u8], to: &mut [u8])
-    requires { length from.now ≡ length to.old }
+fn run_case(out: &mut impl Write, case: &[u8; 256], length: usize) -> io::Result<()>
+    requires { length ≤ 84 }
 {
-    to.copy_from_slice(from);
-}
-
-fn run_case(out: &mut impl Write, s: &[u8], state: &mut [u8], memory: &mut [u8]) -> io::Result<()>
-    requires { (length s.now ≡ 256) × ((length state.old ≡ 164) × (length memory.old ≤ 84)) }
-{
-    let before = &s[STATE..STATE + state.len()];
-    let from = &s[MEMORY..MEMORY + memory.len()];
-    copy(before, state);
-    copy(from, memory);
-    let number = steps(state, memory, word::bytes::load32(s, 168));
+    let mut state = [0u8; 164];
+    let mut space = [0u8; SPACE];
+    state.copy_from_slice(&case[..LENGTH]);
+    space.copy_from_slice(&case[MEMORY..]);
+    let number = steps(&mut state, &mut space[..length], load::<4>(case, COUNT));
     write!(out, "{number}")?;
-    print_state(out, before, state)?;
-    print_memory(out, from, memory)?;
+    print_state(out, case, &state)?;
+    print_memory(out, &case[MEMORY..], &space)?;
     writeln!(out)
 }
 
@@ -74,31 +69,25 @@ fn run_case(out: &mut impl Write, s: &[u8], state: &mut [u8], memory: &mut [u8])
 fn next_case(
     input: &mut impl Read,
     out: &mut impl Write,
-    case: &mut [u8],
-    state: &mut [u8],
-    space: &mut [u8],
-) -> io::Result<bool>
-    requires { (length case.old ≡ 256) × ((length state.old ≡ 164) × (length space.old ≡ 84)) }
-{
+    case: &mut [u8; 256],
+) -> io::Result<bool> {
     if input::read_full(input, case)? < 256 {
         return Ok(false);
     }
-    let n = word::bytes::load32(case, 164) as usize;
-    if n <= 84 {
-        run_case(out, case, state, &mut space[..n])?;
-        return Ok(true);
+    let length = load::<4>(case, LENGTH) as usize;
+    if length > SPACE {
+        return Ok(false);
     }
-    Ok(false)
+    run_case(out, case, length)?;
+    Ok(true)
 }
 
 fn main(rt: HostRuntime) -> io::Result<()> {
     let mut input = rt.stdin();
     let mut out = rt.stdout();
     let mut case = [0u8; 256];
-    let mut state = [0u8; 164];
-    let mut space = [0u8; 84];
     for _ in 0..CASES {
-        if !next_case(&mut input, &mut out, &mut case, &mut state, &mut space)? {
+        if !next_case(&mut input, &mut out, &mut case)? {
             return Ok(());
         }
     }

@@ -11,7 +11,7 @@ use Rattle.isa.specs.declared.kind.Kind.TheVariants as K
 use Rattle.isa.specs.declared.kind.Instruction.{Instruction}
 use Rattle.class.specs.Class.{class_of}
 use Rattle.layout.specs.declared.Layout.{Layout}
-use Rattle.view.specs.View.{is_region, seen}
+use Rattle.view.specs.View.{passes, is_region, seen}
 use Rattle.rules.specs.Rules.{word_at, view_at}
 use Rattle.checker.specs.declared.verdict.Verdict.{Verdict}
 use Rattle.checker.specs.Check.{broken_by}
@@ -39,19 +39,19 @@ module _ (l : Layout) (img : List ℕ) (i : ℕ) where
   unfolding seen C.is_excused
   excuses x t = ands (js x.kind) (ands (eqs _ _) (eqs _ _))
 
-  rule20 : Denies (S.Rule20 l img i) (C.broken20 l i (view_at img i))
+  rule20 : Denies (S.Rule20 l img i) (passes (C.broken20 l i) (view_at img i))
   unfolding seen C.broken20
   rule20 =
-      every_word img i _ (C.broken20 l i) refl
+      every_word img i _ (C.broken20 l i)
       (λ x. both (bars (registers (flow_of x))) (targets l img i x _ (λ t. not (C.is_forward l i (seen x) t)) (λ t. lacks (ors (aheads t) (excuses x t)))))
 
   calls : Says (S.Syscall0 img i) (C.is_syscall0 (word_at img i))
   unfolding C.is_syscall0
   calls = some_reading _ C.syscalls0 refl (reading_at img i) (λ x e. ands (syscalls x.kind) (eqs x.value 0))
 
-  backs : Says (S.Back l img i) (C.is_back l i (view_at img i))
+  backs : Says (S.Back l img i) (passes (C.is_back l i) (view_at img i))
   unfolding seen C.is_back
-  backs = some_word img i _ (C.is_back l i) refl (λ x. ands (js x.kind) (eqs _ _))
+  backs = some_word img i _ (C.is_back l i) (λ x. ands (js x.kind) (eqs _ _))
 
 module _ (l : Layout) (img : List ℕ) where
   endings : (n : ℕ) → Denies (S.Ending l img n) (C.differs l img n)

@@ -2,6 +2,7 @@
 use Rattle.std.specs.Prelude.{ℕ, Bool, cond, List, [], ◌∷◌, ◌++◌, eqb}
 use Rattle.layout.specs.declared.Layout.{Layout}
 use Rattle.checker.specs.declared.verdict.Verdict.{Verdict}
+use Rattle.view.specs.View.{passes}
 use Rattle.rules.specs.Rules.{view_at}
 use Rattle.checker.specs.Check.{verdict, no_place, trials_at, trials_after, trials_by, is_word_broken, broken_by, first_of}
 use Rattle.profile.specs.Rules.{broken20, broken21}
@@ -24,7 +25,7 @@ straight_trials l = trials_by straight_at straight_after l
 -- 8 to 16 and 20, at word i, and 21, which hangs on no word
 unfoldable pub is_straight_broken : Layout → List ℕ → ℕ → ℕ → Bool
 is_straight_broken l img n i =
-    cond (eqb n 20) (broken20 l i (view_at img i)) (cond (eqb n 21) (broken21 l img) (is_word_broken l img n i))
+    cond (eqb n 20) (passes (broken20 l i) (view_at img i)) (cond (eqb n 21) (broken21 l img) (is_word_broken l img n i))
 
 unfoldable pub straight_of : Layout → ℕ → List ℕ → Verdict
 straight_of l len img = first_of (broken_by (is_straight_broken l img) l len img) (straight_trials l)

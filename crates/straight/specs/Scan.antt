@@ -1,21 +1,12 @@
--- What the code asks of one word: the first of 8 to 15 and 20 that it breaks, 0 where none is, and whether it is a branch or jump.
--- The verdict (`straight_of`) does not rest on this; `word_first` of proofs/Scan ties the two together.
-use Rattle.std.specs.Prelude.{ℕ, Bool, cond, List, eqb}
+-- The profile's two rules as the checker's loop asks them: the number of a branch or jump, and that of the whole, 0 where the rule is kept.
+-- The verdict (`straight_of`) does not rest on this; `straight_words` of proofs/Scan ties the two together.
+use Rattle.std.specs.Prelude.{ℕ, cond, List}
 use Rattle.layout.specs.declared.Layout.{Layout}
 use Rattle.view.specs.declared.View.{View}
-use Rattle.view.specs.View.{is_branch}
-use Rattle.checker.specs.declared.verdict.Verdict.{Verdict}
-use Rattle.checker.specs.declared.words.Tried.{Tried}
-use Rattle.checker.specs.Scan.{word_refusal, words_by}
-use Rattle.profile.specs.Rules.{broken20}
-use Rattle.straight.specs.Check.{straight_at, straight_after, is_straight_broken}
+use Rattle.profile.specs.Rules.{broken20, broken21}
 
-unfoldable pub straight_refusal : Layout → List ℕ → ℕ → Bool → View → ℕ
-straight_refusal l img i after v =
-    cond (eqb (word_refusal l img i after v) 0) (cond (broken20 l i v) 20 0) (word_refusal l img i after v)
+abbrev pub of_branch : Layout → ℕ → View → ℕ
+of_branch l i v = cond (broken20 l i v) 20 0
 
-abbrev pub straight_tried : Layout → List ℕ → ℕ → Bool → View → Tried
-straight_tried l img i after v = record { number = straight_refusal l img i after v; branch = is_branch v }
-
-unfoldable pub straight_words : Layout → List ℕ → ℕ → ℕ → Verdict
-straight_words l img n i = words_by (is_straight_broken l img) straight_at straight_after n i
+abbrev pub of_whole : Layout → List ℕ → ℕ
+of_whole l img = cond (broken21 l img) 21 0

@@ -5,11 +5,13 @@ ghost use Rattle.std.specs.Prelude.{◌≡◌};
 ghost use Rattle.system.specs.System as Spec;
 
 use effect::effect::{Effect, Special};
+use effect::exit::Exit;
 use isa::kind::System;
 
 // The code of BREAK and SYSCALL that raises no exception.
 const RESERVED: u32 = 15;
 
+#[tactic(auto, unfolding(crate::specs::System::is_user))]
 fn is_user(status: u32) -> bool
     ensures { result ≡ Spec.is_user status }
 {
@@ -22,6 +24,7 @@ fn restored(status: u32) -> u32
     status / 2 % 4 + 8 * (status / 16 % 4) + 64 * (status / 128 % 64)
 }
 
+#[tactic(auto, unfolding(crate::specs::System::control_of))]
 fn control(s: Special, d: u32) -> u32
     ensures { result ≡ Spec.control_of s d }
 {
@@ -33,32 +36,37 @@ fn control(s: Special, d: u32) -> u32
     }
 }
 
+#[tactic(auto, unfolding(crate::specs::System::system_call_of))]
 fn system_call(code: u32, status: u32) -> Effect
     ensures { result ≡ Spec.system_call_of code status }
 {
     if (code == RESERVED) & !is_user(status) {
-        return Effect::Exit(effect::exit::STOP_CORES);
+        Effect::Exit(Exit::StopCores)
+    } else {
+        Effect::Exit(Exit::SystemCall)
     }
-    Effect::Exit(effect::exit::SYSTEM_CALL)
 }
 
+#[tactic(auto, unfolding(crate::specs::System::breakpoint_of))]
 fn breakpoint(code: u32) -> Effect
     ensures { result ≡ Spec.breakpoint_of code }
 {
     if code == RESERVED {
-        Effect::Exit(effect::exit::DEBUG_BREAK)
+        Effect::Exit(Exit::DebugBreak)
     } else {
-        Effect::Exit(effect::exit::BREAKPOINT)
+        Effect::Exit(Exit::Breakpoint)
     }
 }
 
-fn privileged(status: u32, number: u32, e: Effect) -> Effect
-    ensures { result ≡ Spec.privileged status number e }
+#[tactic(auto, unfolding(crate::specs::System::privileged))]
+fn privileged(status: u32, exit: Exit, e: Effect) -> Effect
+    ensures { result ≡ Spec.privileged status exit e }
 {
     if is_user(status) {
-        return Effect::Exit(number);
+        Effect::Exit(exit)
+    } else {
+        e
     }
-    e
 }
 
 pub fn system(k: System, rt: u32, rd: u32, b: u32, v: u32, s: Special) -> Effect
@@ -70,19 +78,15 @@ pub fn system(k: System, rt: u32, rd: u32, b: u32, v: u32, s: Special) -> Effect
         System::Break => breakpoint(v),
         System::Rfe => privileged(
             status,
-            effect::exit::PRIVILEGED_INSTRUCTION,
+            Exit::PrivilegedInstruction,
             Effect::Return(restored(status)),
         ),
         System::Mfc0 => privileged(
             status,
-            effect::exit::PRIVILEGED_DATA,
+            Exit::PrivilegedData,
             Effect::Write(rt, control(s, rd)),
         ),
-        System::Mtc0 => privileged(
-            status,
-            effect::exit::PRIVILEGED_DATA,
-            Effect::Control(rd, b),
-        ),
+        System::Mtc0 => privileged(status, Exit::PrivilegedData, Effect::Control(rd, b)),
         System::Sync => Effect::Advance,
     }
 }

@@ -12,7 +12,9 @@ use Rattle.isa.specs.declared.kind.Kind.{Kind}
 use Rattle.isa.specs.Table.{row_of, instructions}
 use Rattle.isa.proofs.Codes.{table_of, key_of, Found, found, nothing, lookup, lookup_key, found_self, every_kind, both}
 use Rattle.isa.proofs.Same.{same_kind}
-use Rattle.table.specs.Tables.{Table, opcode, function, condition, control, Entry, none, special, regimm, cop0, kind, opcodes, functions, conditions, controls, entries, Place, entry_at, bits_of, OneEntry}
+use Rattle.table.specs.declared.tables.Entry.{Entry}
+use Rattle.table.specs.declared.tables.Entry.TheVariants.{Empty, Special, Regimm, Cop0, Holds}
+use Rattle.table.specs.Tables.{Table, opcode, function, condition, control, opcodes, functions, conditions, controls, entries, Place, entry_at, bits_of, OneEntry}
 
 -- the tables by number, as in a kind's key
 abbrev pub number_of : Table → ℕ
@@ -27,16 +29,16 @@ key_at p = number_of p.table * 64 + p.index
 -- ---- the test
 
 abbrev agrees : Found → Entry → Bool
-agrees (found k) none = false
-agrees (found k) special = false
-agrees (found k) regimm = false
-agrees (found k) cop0 = false
-agrees (found k) (kind j) = eqb (key_of k) (key_of j)
-agrees nothing none = true
-agrees nothing special = true
-agrees nothing regimm = true
-agrees nothing cop0 = true
-agrees nothing (kind j) = false
+agrees (found k) Empty = false
+agrees (found k) Special = false
+agrees (found k) Regimm = false
+agrees (found k) Cop0 = false
+agrees (found k) (Holds j) = eqb (key_of k) (key_of j)
+agrees nothing Empty = true
+agrees nothing Special = true
+agrees nothing Regimm = true
+agrees nothing Cop0 = true
+agrees nothing (Holds j) = false
 
 -- each entry is the kind that has the place's key, from key x on
 abbrev agreed : ℕ → List Entry → Bool
@@ -50,11 +52,11 @@ tested function = tt
 tested condition = tt
 tested control = tt
 
-agreed_at : (es : List Entry) (x i : ℕ) → T (agreed x es) → i < length es → T (agrees (lookup instructions (x + i)) (get_or es i none))
+agreed_at : (es : List Entry) (x i : ℕ) → T (agreed x es) → i < length es → T (agrees (lookup instructions (x + i)) (get_or es i Empty))
 agreed_at [] x i t h = absurd (not-suc-le-zero h)
 agreed_at (e ∷ es) x zero t h = subst (λ (y : ℕ). T (agrees (lookup instructions y) e)) (sym (add-zero x)) (both (agrees (lookup instructions x) e) (agreed (suc x) es) t).0
 agreed_at (e ∷ es) x (suc i) t h =
-    subst (λ (y : ℕ). T (agrees (lookup instructions y) (get_or es i none))) (suc-add x i ∙ sym (add-suc x i))
+    subst (λ (y : ℕ). T (agrees (lookup instructions y) (get_or es i Empty))) (suc-add x i ∙ sym (add-suc x i))
     (agreed_at es (suc x) i (both (agrees (lookup instructions x) e) (agreed (suc x) es) t).1 (le_of_suc-le-suc h))
 
 -- a place of the tables
@@ -84,40 +86,40 @@ short p h = go p.table h
 
 -- ---- what it says
 
-found_agrees : (x : Found) (e : Entry) (k : Kind) → T (agrees x e) → x ≡ found k → e ≡ kind k
-found_agrees (found j) none k t q = absurd t
-found_agrees (found j) special k t q = absurd t
-found_agrees (found j) regimm k t q = absurd t
-found_agrees (found j) cop0 k t q = absurd t
-found_agrees (found j) (kind i) k t q = let r : j ≡ i = same_kind j i (eqb→eq (key_of j) (key_of i) t) in cc
+found_agrees : (x : Found) (e : Entry) (k : Kind) → T (agrees x e) → x ≡ found k → e ≡ Holds k
+found_agrees (found j) Empty k t q = absurd t
+found_agrees (found j) Special k t q = absurd t
+found_agrees (found j) Regimm k t q = absurd t
+found_agrees (found j) Cop0 k t q = absurd t
+found_agrees (found j) (Holds i) k t q = let r : j ≡ i = same_kind j i (eqb→eq (key_of j) (key_of i) t) in cc
 found_agrees nothing e k t q = absurd (let z : ◌≡◌ {A = ℕ} 0 1 = cc in omega arith)
 
-kind_agrees : (x : Found) (e : Entry) (k : Kind) → T (agrees x e) → e ≡ kind k → x ≡ found k
-kind_agrees (found j) none k t q = absurd t
-kind_agrees (found j) special k t q = absurd t
-kind_agrees (found j) regimm k t q = absurd t
-kind_agrees (found j) cop0 k t q = absurd t
-kind_agrees (found j) (kind i) k t q = let r : j ≡ i = same_kind j i (eqb→eq (key_of j) (key_of i) t) in cc
-kind_agrees nothing none k t q = absurd (let z : ◌≡◌ {A = ℕ} 0 1 = cc in omega arith)
-kind_agrees nothing special k t q = absurd (let z : ◌≡◌ {A = ℕ} 0 1 = cc in omega arith)
-kind_agrees nothing regimm k t q = absurd (let z : ◌≡◌ {A = ℕ} 0 1 = cc in omega arith)
-kind_agrees nothing cop0 k t q = absurd (let z : ◌≡◌ {A = ℕ} 0 1 = cc in omega arith)
-kind_agrees nothing (kind i) k t q = absurd t
+kind_agrees : (x : Found) (e : Entry) (k : Kind) → T (agrees x e) → e ≡ Holds k → x ≡ found k
+kind_agrees (found j) Empty k t q = absurd t
+kind_agrees (found j) Special k t q = absurd t
+kind_agrees (found j) Regimm k t q = absurd t
+kind_agrees (found j) Cop0 k t q = absurd t
+kind_agrees (found j) (Holds i) k t q = let r : j ≡ i = same_kind j i (eqb→eq (key_of j) (key_of i) t) in cc
+kind_agrees nothing Empty k t q = absurd (let z : ◌≡◌ {A = ℕ} 0 1 = cc in omega arith)
+kind_agrees nothing Special k t q = absurd (let z : ◌≡◌ {A = ℕ} 0 1 = cc in omega arith)
+kind_agrees nothing Regimm k t q = absurd (let z : ◌≡◌ {A = ℕ} 0 1 = cc in omega arith)
+kind_agrees nothing Cop0 k t q = absurd (let z : ◌≡◌ {A = ℕ} 0 1 = cc in omega arith)
+kind_agrees nothing (Holds i) k t q = absurd t
 
 -- the kind that has a place's key stands there
-pub stands : (p : Place) (k : Kind) → Inside p → lookup instructions (key_at p) ≡ found k → entry_at p ≡ kind k
+pub stands : (p : Place) (k : Kind) → Inside p → lookup instructions (key_at p) ≡ found k → entry_at p ≡ Holds k
 stands p k h e = found_agrees (lookup instructions (key_at p)) (entry_at p) k (at_place p h) e
 
 -- past the table stands nothing
-held : (p : Place) (k : Kind) → entry_at p ≡ kind k → Inside p
+held : (p : Place) (k : Kind) → entry_at p ≡ Holds k → Inside p
 held p k e =
     elim (dec_lt p.index (length (entries p.table))) [
       | yes h ↦ h
-      | no h ↦ absurd (let q : entry_at p ≡ none = get_or-eq_default (entries p.table) none (omega arith) in let z : ◌≡◌ {A = ℕ} 0 1 = cc in omega arith)
+      | no h ↦ absurd (let q : entry_at p ≡ Empty = get_or-eq_default (entries p.table) Empty (omega arith) in let z : ◌≡◌ {A = ℕ} 0 1 = cc in omega arith)
     ]
 
 -- a kind that stands at a place has its key
-pub key_at_law : (p : Place) (k : Kind) → entry_at p ≡ kind k → key_of k ≡ key_at p
+pub key_at_law : (p : Place) (k : Kind) → entry_at p ≡ Holds k → key_of k ≡ key_at p
 key_at_law p k e =
     lookup_key instructions (key_at p) k (kind_agrees (lookup instructions (key_at p)) (entry_at p) k (at_place p (held p k e)) e)
 

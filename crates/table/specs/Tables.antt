@@ -1,6 +1,6 @@
 -- The kind looked up (document 02, Ticket 3): four tables over the six-bit and five-bit fields, eight places to a row, as the public manuals print
 -- them, with the 72 alone entered. RFE, which these print under function 16 of COP0, stands at rs 16: no other word with that rs is an instruction.
-use Rattle.std.specs.Prelude.{ℕ, ◌≡◌, List, [], ◌∷◌, get_or}
+use Rattle.std.specs.Prelude.{ℕ, ◌≡◌, List, [], ◌∷◌, get_or, Option, Some, None}
 use Rattle.word.specs.declared.field.Fields.{Fields}
 use Rattle.isa.specs.declared.kind.Alu.{Alu}
 use Rattle.isa.specs.declared.kind.Alu.TheVariants.{Add, Addu, Sub, Subu, Slt, Sltu, And, Or, Xor, Nor}
@@ -20,7 +20,8 @@ use Rattle.isa.specs.declared.kind.System.{System}
 use Rattle.isa.specs.declared.kind.System.TheVariants.{Syscall, Break, Rfe, Mfc0, Mtc0, Sync}
 use Rattle.isa.specs.declared.kind.Kind.{Kind}
 use Rattle.isa.specs.declared.kind.Kind.TheVariants as K
-use Rattle.isa.specs.Table.{row_of}
+use Rattle.table.specs.declared.tables.Entry.{Entry}
+use Rattle.table.specs.declared.tables.Entry.TheVariants.{Empty, Special, Regimm, Cop0, Holds}
 
 -- by the opcode; for opcode SPECIAL by the function, for REGIMM by rt, for COP0 by rs
 pub data Table : Type 0 where
@@ -29,77 +30,69 @@ pub data Table : Type 0 where
   condition : Table
   control : Table
 
--- what stands at a place: no instruction, an opcode that leads to another table, or an instruction
-pub data Entry : Type 0 where
-  none : Entry
-  special : Entry
-  regimm : Entry
-  cop0 : Entry
-  kind : Kind → Entry
-
 abbrev pub alu : Alu → Entry
-alu k = kind (K.Alu k)
+alu k = Holds (K.Alu k)
 
 abbrev pub immediate : Immediate → Entry
-immediate k = kind (K.Immediate k)
+immediate k = Holds (K.Immediate k)
 
 abbrev pub shift : Shift → Entry
-shift k = kind (K.Shift k)
+shift k = Holds (K.Shift k)
 
 abbrev pub multiply : Multiply → Entry
-multiply k = kind (K.Multiply k)
+multiply k = Holds (K.Multiply k)
 
 abbrev pub access : Access → Entry
-access k = kind (K.Access k)
+access k = Holds (K.Access k)
 
 abbrev pub branch : Branch → Entry
-branch k = kind (K.Branch k)
+branch k = Holds (K.Branch k)
 
 abbrev pub trap : Trap → Entry
-trap k = kind (K.Trap k)
+trap k = Holds (K.Trap k)
 
 abbrev pub system : System → Entry
-system k = kind (K.System k)
+system k = Holds (K.System k)
 
 -- bits 31 to 26
 unfoldable pub opcodes : List Entry
 opcodes =
-    special ∷ regimm ∷ branch J ∷ branch Jal ∷ branch Beq ∷ branch Bne ∷ branch Blez ∷ branch Bgtz ∷
+    Special ∷ Regimm ∷ branch J ∷ branch Jal ∷ branch Beq ∷ branch Bne ∷ branch Blez ∷ branch Bgtz ∷
     immediate Addi ∷ immediate Addiu ∷ immediate Slti ∷ immediate Sltiu ∷ immediate Andi ∷ immediate Ori ∷ immediate Xori ∷ immediate Lui ∷
-    cop0 ∷ none ∷ none ∷ none ∷ none ∷ none ∷ none ∷ none ∷
-    none ∷ none ∷ none ∷ none ∷ none ∷ none ∷ none ∷ none ∷
-    access Lb ∷ access Lh ∷ none ∷ access Lw ∷ access Lbu ∷ access Lhu ∷ none ∷ none ∷
-    access Sb ∷ access Sh ∷ none ∷ access Sw ∷ none ∷ none ∷ none ∷ none ∷
-    access Ll ∷ none ∷ none ∷ none ∷ none ∷ none ∷ none ∷ none ∷
-    access Sc ∷ none ∷ none ∷ none ∷ none ∷ none ∷ none ∷ none ∷ []
+    Cop0 ∷ Empty ∷ Empty ∷ Empty ∷ Empty ∷ Empty ∷ Empty ∷ Empty ∷
+    Empty ∷ Empty ∷ Empty ∷ Empty ∷ Empty ∷ Empty ∷ Empty ∷ Empty ∷
+    access Lb ∷ access Lh ∷ Empty ∷ access Lw ∷ access Lbu ∷ access Lhu ∷ Empty ∷ Empty ∷
+    access Sb ∷ access Sh ∷ Empty ∷ access Sw ∷ Empty ∷ Empty ∷ Empty ∷ Empty ∷
+    access Ll ∷ Empty ∷ Empty ∷ Empty ∷ Empty ∷ Empty ∷ Empty ∷ Empty ∷
+    access Sc ∷ Empty ∷ Empty ∷ Empty ∷ Empty ∷ Empty ∷ Empty ∷ Empty ∷ []
 
 -- opcode SPECIAL: bits 5 to 0
 unfoldable pub functions : List Entry
 functions =
-    shift Sll ∷ none ∷ shift Srl ∷ shift Sra ∷ shift Sllv ∷ none ∷ shift Srlv ∷ shift Srav ∷
-    branch Jr ∷ branch Jalr ∷ none ∷ none ∷ system Syscall ∷ system Break ∷ none ∷ system Sync ∷
-    multiply Mfhi ∷ multiply Mthi ∷ multiply Mflo ∷ multiply Mtlo ∷ none ∷ none ∷ none ∷ none ∷
-    multiply Mult ∷ multiply Multu ∷ multiply Div ∷ multiply Divu ∷ none ∷ none ∷ none ∷ none ∷
+    shift Sll ∷ Empty ∷ shift Srl ∷ shift Sra ∷ shift Sllv ∷ Empty ∷ shift Srlv ∷ shift Srav ∷
+    branch Jr ∷ branch Jalr ∷ Empty ∷ Empty ∷ system Syscall ∷ system Break ∷ Empty ∷ system Sync ∷
+    multiply Mfhi ∷ multiply Mthi ∷ multiply Mflo ∷ multiply Mtlo ∷ Empty ∷ Empty ∷ Empty ∷ Empty ∷
+    multiply Mult ∷ multiply Multu ∷ multiply Div ∷ multiply Divu ∷ Empty ∷ Empty ∷ Empty ∷ Empty ∷
     alu Add ∷ alu Addu ∷ alu Sub ∷ alu Subu ∷ alu And ∷ alu Or ∷ alu Xor ∷ alu Nor ∷
-    none ∷ none ∷ alu Slt ∷ alu Sltu ∷ none ∷ none ∷ none ∷ none ∷
-    trap Tge ∷ trap Tgeu ∷ trap Tlt ∷ trap Tltu ∷ trap Teq ∷ none ∷ trap Tne ∷ none ∷
-    none ∷ none ∷ none ∷ none ∷ none ∷ none ∷ none ∷ none ∷ []
+    Empty ∷ Empty ∷ alu Slt ∷ alu Sltu ∷ Empty ∷ Empty ∷ Empty ∷ Empty ∷
+    trap Tge ∷ trap Tgeu ∷ trap Tlt ∷ trap Tltu ∷ trap Teq ∷ Empty ∷ trap Tne ∷ Empty ∷
+    Empty ∷ Empty ∷ Empty ∷ Empty ∷ Empty ∷ Empty ∷ Empty ∷ Empty ∷ []
 
 -- opcode REGIMM: bits 20 to 16
 unfoldable pub conditions : List Entry
 conditions =
-    branch Bltz ∷ branch Bgez ∷ none ∷ none ∷ none ∷ none ∷ none ∷ none ∷
-    trap Tgei ∷ trap Tgeiu ∷ trap Tlti ∷ trap Tltiu ∷ trap Teqi ∷ none ∷ trap Tnei ∷ none ∷
-    branch Bltzal ∷ branch Bgezal ∷ none ∷ none ∷ none ∷ none ∷ none ∷ none ∷
-    none ∷ none ∷ none ∷ none ∷ none ∷ none ∷ none ∷ none ∷ []
+    branch Bltz ∷ branch Bgez ∷ Empty ∷ Empty ∷ Empty ∷ Empty ∷ Empty ∷ Empty ∷
+    trap Tgei ∷ trap Tgeiu ∷ trap Tlti ∷ trap Tltiu ∷ trap Teqi ∷ Empty ∷ trap Tnei ∷ Empty ∷
+    branch Bltzal ∷ branch Bgezal ∷ Empty ∷ Empty ∷ Empty ∷ Empty ∷ Empty ∷ Empty ∷
+    Empty ∷ Empty ∷ Empty ∷ Empty ∷ Empty ∷ Empty ∷ Empty ∷ Empty ∷ []
 
 -- opcode COP0: bits 25 to 21
 unfoldable pub controls : List Entry
 controls =
-    system Mfc0 ∷ none ∷ none ∷ none ∷ system Mtc0 ∷ none ∷ none ∷ none ∷
-    none ∷ none ∷ none ∷ none ∷ none ∷ none ∷ none ∷ none ∷
-    system Rfe ∷ none ∷ none ∷ none ∷ none ∷ none ∷ none ∷ none ∷
-    none ∷ none ∷ none ∷ none ∷ none ∷ none ∷ none ∷ none ∷ []
+    system Mfc0 ∷ Empty ∷ Empty ∷ Empty ∷ system Mtc0 ∷ Empty ∷ Empty ∷ Empty ∷
+    Empty ∷ Empty ∷ Empty ∷ Empty ∷ Empty ∷ Empty ∷ Empty ∷ Empty ∷
+    system Rfe ∷ Empty ∷ Empty ∷ Empty ∷ Empty ∷ Empty ∷ Empty ∷ Empty ∷
+    Empty ∷ Empty ∷ Empty ∷ Empty ∷ Empty ∷ Empty ∷ Empty ∷ Empty ∷ []
 
 abbrev pub entries : Table → List Entry
 entries opcode = opcodes
@@ -114,7 +107,7 @@ pub record Place : Type 0 where
   pub index : ℕ
 
 abbrev pub entry_at : Place → Entry
-entry_at p = get_or (entries p.table) p.index none
+entry_at p = get_or (entries p.table) p.index Empty
 
 -- the field that is a place in a table, and how many bits it has
 abbrev pub field_for : Table → Fields → ℕ
@@ -134,46 +127,46 @@ place_in t f = record { table = t; index = field_for t f }
 
 -- from the table by the opcode to the one that its entry names; where it names none, the place stays
 abbrev pub followed : Entry → Fields → Place
-followed none f = place_in opcode f
-followed special f = place_in function f
-followed regimm f = place_in condition f
-followed cop0 f = place_in control f
-followed (kind k) f = place_in opcode f
+followed Empty f = place_in opcode f
+followed Special f = place_in function f
+followed Regimm f = place_in condition f
+followed Cop0 f = place_in control f
+followed (Holds k) f = place_in opcode f
 
 unfoldable pub place_of : Fields → Place
 place_of f = followed (entry_at (place_in opcode f)) f
 
--- ---- entries as numbers: an instruction's is its own; those of the others are no instruction's
+-- ---- the kind that an entry holds
 
-abbrev pub number_in : Entry → ℕ
-number_in none = 0
-number_in special = 100
-number_in regimm = 101
-number_in cop0 = 102
-number_in (kind k) = (row_of k).number
+abbrev pub kind_in : Entry → Option Kind
+kind_in Empty = None
+kind_in Special = None
+kind_in Regimm = None
+kind_in Cop0 = None
+kind_in (Holds k) = Some k
 
--- the number of what stands where the fields lead: what the word is, if an instruction at all, since the other fields are not looked at
-unfoldable pub entry_of : Fields → ℕ
-entry_of f = number_in (entry_at (place_of f))
+-- the kind that stands where the fields lead: what the word is, if an instruction at all, since the other fields are not looked at
+unfoldable pub entry_of : Fields → Option Kind
+entry_of f = kind_in (entry_at (place_of f))
 
 -- ---- "each of the 72 instructions has exactly one entry": there is one, and any two places that hold it, of all four tables, are the same place
 
 pub record OneEntry (k : Kind) : Type 0 where
   pub place : Place
-  pub there : entry_at place ≡ kind k
-  pub alone : (p q : Place) → entry_at p ≡ kind k → entry_at q ≡ kind k → p ≡ q
+  pub there : entry_at place ≡ Holds k
+  pub alone : (p q : Place) → entry_at p ≡ Holds k → entry_at q ≡ Holds k → p ≡ q
 
 -- ---- a marker stands at the opcode that has its name: SPECIAL 000000, REGIMM 000001, COP0 010000
 
 abbrev pub Marks : Entry → ℕ → Type 0
-Marks none n = Unit
-Marks special n = n ≡ 0b000000
-Marks regimm n = n ≡ 0b000001
-Marks cop0 n = n ≡ 0b010000
-Marks (kind k) n = Unit
+Marks Empty n = Unit
+Marks Special n = n ≡ 0b000000
+Marks Regimm n = n ≡ 0b000001
+Marks Cop0 n = n ≡ 0b010000
+Marks (Holds k) n = Unit
 
--- ---- n is the number of none or of one of the 72, and not that of a marker
+-- ---- where a look-up ends stands nothing or an instruction, and no marker
 
-pub data Ends (n : ℕ) : Type 0 where
-  at_none : n ≡ 0 → Ends n
-  at_kind : (k : Kind) → n ≡ (row_of k).number → Ends n
+pub data Ends (e : Entry) : Type 0 where
+  at_none : e ≡ Empty → Ends e
+  at_kind : (k : Kind) → e ≡ Holds k → Ends e

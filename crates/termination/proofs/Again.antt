@@ -8,11 +8,10 @@ use native.Mathlib.Omega.{arith}
 use native.Mathlib.Decide.{dec_lt}
 use lib.Dec.{eqb}
 use borrow.Author.Tests.{eqb-true, eqb-false}
+use Rattle.std.specs.Prelude.{Option, Some, None}
 use Rattle.word.proofs.Choice.{by_zero}
 use Rattle.isa.specs.declared.kind.Kind.{Kind}
 use Rattle.isa.specs.declared.kind.Instruction.{Instruction}
-use Rattle.isa.specs.declared.reading.Reading.{Reading}
-use Rattle.isa.specs.declared.reading.Reading.TheVariants.{Legal, NoInstruction}
 use Rattle.isa.specs.Reading.{fits, decode_of, read_fields, read_of}
 use Rattle.class.specs.declared.Flow.{Flow}
 use Rattle.class.specs.declared.Flow.TheVariants.{Onward, Region}
@@ -50,9 +49,9 @@ zero_onward : (img : List ℕ) (i : ℕ) (x : Instruction) → Zero img i → St
 unfolding read_of read_fields fits decode_of
 zero_onward img i x z s = ap flow_in (sym s ∙ ap read_of z)
   where
-    flow_in : Reading → Flow
-    flow_in (Legal y) = flow_of y
-    flow_in NoInstruction = Onward
+    flow_in : Option Instruction → Flow
+    flow_in (Some y) = flow_of y
+    flow_in None = Onward
 
 last_more : (a : Answer) (rest : List Answer) → Last Exits rest → Last Exits (a ∷ rest)
 last_more a [] h = absurd h
@@ -119,7 +118,7 @@ module _ (l : Layout) (len : ℕ) (img : List ℕ) (ok : Lawful l len img) (stra
       p_is = next_word l len img ok straight s m v z
 
       abbrev next : ℕ
-      next = (step_of s m).machine.state.next_pc
+      next = (step_of s m).machine.state.special.next_pc
 
       led : (f : Flow) → flow_of x ≡ f → Leads f x (register_of s.registers x.rs) (special_of s) next
       led f e = subst (λ (g : Flow). Leads g x (register_of s.registers x.rs) (special_of s) next) e (goes l len img ok straight s m v z)
@@ -132,7 +131,7 @@ module _ (l : Layout) (len : ℕ) (img : List ℕ) (ok : Lawful l len img) (stra
       jump_next e =
           let (y, (t, (_, b))) = straight.r21.1.1.0 in
           let same : y ≡ x = stands_once img (words_in l - 2) y x t (stands_at (words_in l - 2) e) in
-          let to : region_of s.pc x.value ≡ region_of (l.code_base + 4 * (words_in l - 2)) y.value =
+          let to : region_of s.special.pc x.value ≡ region_of (l.code_base + 4 * (words_in l - 2)) y.value =
           ap (λ (c : ℕ). region_of c x.value) (v.position.counter ∙ ap (λ (n : ℕ). l.code_base + 4 * n) e)
           ∙ ap (λ (u : Instruction). region_of (l.code_base + 4 * (words_in l - 2)) u.value) (sym same) in
           let size : l.code_size % 16 ≡ 0 = code_bundles l len img ok in

@@ -37,7 +37,7 @@ use Rattle.termination.proofs.Forward.{end, Going, step_going, resumed_word, res
 -- ---- a change by the host leaves the program counters
 
 abbrev pub SameCounters : State → State → Type 0
-SameCounters s t = (s.pc ≡ t.pc) × (s.next_pc ≡ t.next_pc)
+SameCounters s t = (s.special.pc ≡ t.special.pc) × (s.special.next_pc ≡ t.special.next_pc)
 
 put_same : (l : Layout) (xs : List Write) (w : Lent State) → SameCounters (put_all methods l xs w).state w.state
 put_same l [] w = (refl, refl)
@@ -143,17 +143,17 @@ module _ (l : Layout) (len : ℕ) (img : List ℕ) (ok : Lawful l len img) (stra
 
   -- ---- the steps of a list, until the module is resumed in its last bundle
 
-  not_past : (s : State) (m : List ℕ) (g : Goes s m) → is_past l s.pc ≡ false
+  not_past : (s : State) (m : List ℕ) (g : Goes s m) → is_past l s.special.pc ≡ false
   not_past s m g =
       let z : l.code_size % 16 ≡ 0 = code_bundles l len img ok in
-      le-ltb (l.code_base + l.code_size) (s.pc + 16) (omega (arith, g.inside.position.counter, g.forward.early, ok.r2.1.0, z))
+      le-ltb (l.code_base + l.code_size) (s.special.pc + 16) (omega (arith, g.inside.position.counter, g.forward.early, ok.r2.1.0, z))
 
-  past : (s : State) (m : List ℕ) (v : Inside l len img s m) → last < v.position.word → is_past l s.pc ≡ true
+  past : (s : State) (m : List ℕ) (v : Inside l len img s m) → last < v.position.word → is_past l s.special.pc ≡ true
   past s m v h =
-      let z : l.code_size % 16 ≡ 0 = code_bundles l len img ok in lt-ltb (l.code_base + l.code_size) (s.pc + 16) (omega (arith, v.position.counter, h, z))
+      let z : l.code_size % 16 ≡ 0 = code_bundles l len img ok in lt-ltb (l.code_base + l.code_size) (s.special.pc + 16) (omega (arith, v.position.counter, h, z))
 
   abbrev Bounded : {s : State} {m : List ℕ} → Goes s m → List Event → ℕ → State → List ℕ → Type 0
-  Bounded g es n t x = word_of g + (n + cond (is_past l t.pc) 0 (steps_until methods l (list_of methods l es (lent t x)))) ≤ last
+  Bounded g es n t x = word_of g + (n + cond (is_past l t.special.pc) 0 (steps_until methods l (list_of methods l es (lent t x)))) ≤ last
 
   abbrev Lists : List Event → Type 0
   Lists es = (w : Lent State) (g : Goes w.state w.memory) → word_of g + steps_until methods l (list_of methods l es w) ≤ last

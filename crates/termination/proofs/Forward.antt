@@ -91,7 +91,7 @@ module _ (l : Layout) (len : ℕ) (img : List ℕ) (ok : Lawful l len img) (stra
     end_exits e z =
         let (y, (p, (k, _))) = straight.r21.0 in
         let same : y ≡ x = stands_once img i y x (subst (λ (n : ℕ). Stands img n y) (sym e) p) stands in
-        call_exits x.value s.status (sym (by_kind_law (K.System Syscall) (ap (λ (w : Instruction). w.kind) (sym same) ∙ k)) ∙ z)
+        call_exits x.value s.special.status (sym (by_kind_law (K.System Syscall) (ap (λ (w : Instruction). w.kind) (sym same) ∙ k)) ∙ z)
 
     -- ---- a completed step
 
@@ -109,13 +109,13 @@ module _ (l : Layout) (len : ℕ) (img : List ℕ) (ok : Lawful l len img) (stra
       k = then.position.following
 
       -- next PC is where the instruction's flow lets it go
-      pub goes : Leads (flow_of x) x base (special_of s) after.next_pc
+      pub goes : Leads (flow_of x) x base (special_of s) after.special.next_pc
       goes = (moved l len img ok s m v z).goes
 
-      pub to_word : (w : ℕ) → after.next_pc ≡ l.code_base + 4 * w → k ≡ w
+      pub to_word : (w : ℕ) → after.special.next_pc ≡ l.code_base + 4 * w → k ≡ w
       to_word w e = omega (arith, then.position.next_counter, e)
 
-      pub to_slot : j + 1 < words_in l → after.next_pc ≡ slot_of s.next_pc → k ≡ j + 1
+      pub to_slot : j + 1 < words_in l → after.special.next_pc ≡ slot_of s.special.next_pc → k ≡ j + 1
       to_slot h e = to_word (j + 1) (e ∙ slot_is l len img ok s m v h)
 
     module _ (f : Forward i j) (z : (step_of s m).number ≡ 0) where
@@ -126,7 +126,7 @@ module _ (l : Layout) (len : ℕ) (img : List ℕ) (ok : Lawful l len img) (stra
       within = f.rising before_end
 
       -- no branch, or one that is not taken
-      onward : (after z).next_pc ≡ slot_of s.next_pc → Forward j (k z)
+      onward : (after z).special.next_pc ≡ slot_of s.special.next_pc → Forward j (k z)
       onward e = in_order j (k z) within.1 (to_slot z (omega (arith, within.1)) e)
 
       -- a branch stands in no slot, so that word i + 1 comes next
@@ -134,7 +134,7 @@ module _ (l : Layout) (len : ℕ) (img : List ℕ) (ok : Lawful l len img) (stra
       beside b = ⊎_elim (λ e. e) (λ h. absurd (ok.r14 i (in_code l len img ok s m v) x h.1.0 stands b h.0 h.1.1.0 h.1.1.1)) f.slot
 
       -- a branch that is taken
-      branched : Branches x → (t : ℕ) → (after z).next_pc ≡ t → Ahead l i t ⊎ Excused l i x t → Forward j (k z)
+      branched : Branches x → (t : ℕ) → (after z).special.next_pc ≡ t → Ahead l i t ⊎ Excused l i x t → Forward j (k z)
       branched b t e (inl (p, q)) =
           let n = beside b in
           let c : l.code_size % 16 ≡ 0 = code_bundles l len img ok in
@@ -155,7 +155,7 @@ module _ (l : Layout) (len : ℕ) (img : List ℕ) (ok : Lawful l len img) (stra
       targets : AtTarget l i x Forwards
       targets = (straight.r20 i (in_code l len img ok s m v) x stands).1
 
-      leads : (g : Flow) → flow_of x ≡ g → Leads g x base (special_of s) (after z).next_pc → Forward j (k z)
+      leads : (g : Flow) → flow_of x ≡ g → Leads g x base (special_of s) (after z).special.next_pc → Forward j (k z)
       leads Onward e h = onward h
       leads Relative e (inl h) = onward h
       leads Relative e (inr h) = branched (λ o. false≢true (sym (ap is_relative o) ∙ ap is_relative e)) _ h

@@ -91,8 +91,8 @@ steps_bytes l [] w g = refl
 steps_bytes l (e ∷ es) w g =
     let r = event_of methods l e w in
     let h = event_ranged l w g e in
-    ap (λ x. steps_of x.answer + cond (is_past l (exported.view x.left.state).pc) 0 (steps_until exported l (list_of exported l es x.left))) (event_bytes l w g e)
-    ∙ ap₂ (λ (s : State) (n : ℕ). steps_of r.answer + cond (is_past l s.pc) 0 n) (same l r.left h) (steps_bytes l es r.left h)
+    ap (λ x. steps_of x.answer + cond (is_past l (exported.view x.left.state).special.pc) 0 (steps_until exported l (list_of exported l es x.left))) (event_bytes l w g e)
+    ∙ ap₂ (λ (s : State) (n : ℕ). steps_of r.answer + cond (is_past l s.special.pc) 0 n) (same l r.left h) (steps_bytes l es r.left h)
 
 pub straight_ends_exported : StraightEnds exported
 straight_ends_exported l len img e w p =

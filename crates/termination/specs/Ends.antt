@@ -53,7 +53,7 @@ is_past l pc = ltb (l.code_base + l.code_size) (pc + 16)
 -- the steps that the calls of a list complete until then, through all other exits, resumes and changes by the host
 abbrev pub steps_until : {S : Type 0} → Calls S → Layout → List (Reply S) → ℕ
 steps_until c l [] = 0
-steps_until c l (r ∷ rs) = steps_of r.answer + cond (is_past l (c.view r.left.state).pc) 0 (steps_until c l rs)
+steps_until c l (r ∷ rs) = steps_of r.answer + cond (is_past l (c.view r.left.state).special.pc) 0 (steps_until c l rs)
 
 -- the steps that the events of a list ask for, up to its first resume
 abbrev pub asked : List Event → ℕ

@@ -6,10 +6,10 @@ use Rattle.isa.specs.declared.kind.Trap.{Trap}
 use Rattle.isa.specs.declared.kind.Trap.TheVariants.{Tge, Tgeu, Tlt, Tltu, Teq, Tne, Tgei, Tgeiu, Tlti, Tltiu, Teqi, Tnei}
 use Rattle.effect.specs.declared.effect.Effect.{Effect}
 use Rattle.effect.specs.declared.effect.Effect.TheVariants.{Exit, Advance}
-use Rattle.effect.specs.Exit.{trap}
+use Rattle.effect.specs.declared.exit.Exit.TheVariants as E
 
 unfoldable pub trap_if : Bool → Effect
-trap_if t = cond t (Exit trap) Advance
+trap_if t = cond t (Exit E.Trap) Advance
 
 -- the constants of TGEIU and TLTIU too are sign-extended (document 01, Traps for the builder); TEQ, TNE, TEQI and TNEI compare words, which are equal exactly where their signed integers are
 abbrev pub trap_of : Trap → ℕ → ℕ → ℕ → Effect

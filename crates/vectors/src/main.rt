@@ -2,78 +2,56 @@
 // A case is seven little-endian words: 0 and a word to be read, or 1 and kind, rs, rt, rd, shift and value to be written.
 #![tactic(auto)]
 
-ghost use Rattle.std.specs.Prelude.{◌+◌, ◌≤◌, length};
+ghost use Rattle.std.specs.Prelude.{◌≤◌, length};
 
+use cc100_instruction::{cc100_read, cc100_write};
 use std::io;
 use std::io::Write;
+use word::bytes::load;
 
 // More input is not read, in bytes.
 const LONGEST_INPUT: usize = 65536;
 
-fn print_number(out: &mut impl Write, x: u32) -> io::Result<()> {
-    write!(out, " {x}")
-}
+const CASE: usize = 28;
 
-fn print_word(out: &mut impl Write, x: u32) -> io::Result<()> {
-    write!(out, " 0x{x:08x}")
-}
-
-fn read_case(out: &mut impl Write, word: u32) -> io::Result<()> {
-    write!(out, "read")?;
-    print_word(out, word)?;
-    let i = cc100_instruction::cc100_read(word);
-    write!(out, " gives")?;
-    print_number(out, i.kind)?;
-    print_number(out, i.rs)?;
-    print_number(out, i.rt)?;
-    print_number(out, i.rd)?;
-    print_number(out, i.shift)?;
-    print_number(out, i.value)
-}
-
-fn write_case(
-    out: &mut impl Write,
-    kind: u32,
-    rs: u32,
-    rt: u32,
-    rd: u32,
-    shift: u32,
-    value: u32,
-) -> io::Result<()> {
-    write!(out, "write")?;
-    print_number(out, kind)?;
-    print_number(out, rs)?;
-    print_number(out, rt)?;
-    print_number(out, rd)?;
-    print_number(out, shift)?;
-    print_number(out, value)?;
-    let w = cc100_instruction::cc100_write(kind, rs, rt, rd, shift, value);
-    write!(out, " gives")?;
-    print_number(out, w.number)?;
-    print_word(out, w.word)
-}
-
-fn run_case(out: &mut impl Write, s: &[u8], at: usize) -> io::Result<()>
-    requires { at + 28 ≤ length s.now }
+fn words_of(case: &[u8]) -> [u32; 7]
+    requires { CASE ≤ length case.now }
 {
-    let tag = word::bytes::load32(s, at);
-    let a = word::bytes::load32(s, at + 4);
-    if tag == 0 {
-        read_case(out, a)?;
-    } else {
-        let rs = word::bytes::load32(s, at + 8);
-        let rt = word::bytes::load32(s, at + 12);
-        let rd = word::bytes::load32(s, at + 16);
-        let shift = word::bytes::load32(s, at + 20);
-        let value = word::bytes::load32(s, at + 24);
-        write_case(out, a, rs, rt, rd, shift, value)?;
-    }
-    writeln!(out)
+    [
+        load::<4>(case, 0),
+        load::<4>(case, 4),
+        load::<4>(case, 8),
+        load::<4>(case, 12),
+        load::<4>(case, 16),
+        load::<4>(case, 20),
+        load::<4>(case, 24),
+    ]
 }
 
-fn run_cases(out: &mut impl Write, s: &[u8]) -> io::Result<()> {
-    for i in 0..s.len() / 28 {
-        run_case(out, s, 28 * i)?;
+fn run_case(out: &mut impl Write, case: [u32; 7]) -> io::Result<()> {
+    match case {
+        [0, word, ..] => {
+            let i = cc100_read(word);
+            writeln!(
+                out,
+                "read 0x{word:08x} gives {} {} {} {} {} {}",
+                i.kind, i.rs, i.rt, i.rd, i.shift, i.value
+            )
+        }
+        [_, kind, rs, rt, rd, shift, value] => {
+            let w = cc100_write(kind, rs, rt, rd, shift, value);
+            writeln!(
+                out,
+                "write {kind} {rs} {rt} {rd} {shift} {value} gives {} 0x{:08x}",
+                w.number, w.word
+            )
+        }
+    }
+}
+
+fn run_cases(out: &mut impl Write, cases: &[u8]) -> io::Result<()> {
+    for case in cases.chunks_exact(CASE) {
+        run_case(out, words_of(case))?;
     }
     Ok(())
 }

@@ -3,26 +3,48 @@
 #![tactic(auto)]
 
 ghost use Rattle.std.specs.Prelude.{◌≡◌, ◌≤◌, length};
-ghost use Rattle.verdict.specs.Program.{verdict_of};
+ghost use Rattle.checker.specs.Said.{verdict_of};
+ghost use Rattle.verdict.specs.Program as Spec;
 
-use checker::verdict::Verdict;
+use checker::verdict::Refused;
 use layout::Layout;
-use std::io;
+use refusal::Refusal;
 use std::io::Write;
+use std::{fmt, io};
 
 // The longest module, in bytes.
 const LONGEST_MODULE: usize = 65536;
 
+// What is said of a module of so many words.
+#[derive(Clone, Copy)]
+struct Answer {
+    said: Result<(), Refused>,
+    words: usize,
+}
+
+impl fmt::Display for Answer {
+    fn fmt<W: fmt::Write>(&self, f: &mut fmt::Formatter<W>) -> fmt::Result {
+        match self.said {
+            Ok(()) => write!(f, "accept {}", self.words),
+            Err(
+                Refused {
+                    rule,
+                    place: Some(place),
+                },
+            ) => write!(f, "refuse {} {place}", u32::from(rule)),
+            Err(Refused { rule, place: None }) => write!(f, "refuse {} -", u32::from(rule)),
+        }
+    }
+}
+
 // more is how many bytes the try for one more found.
-fn judge(image: &[u8], more: usize) -> Verdict
+#[tactic(auto, unfolding(crate::specs::Program::verdict_of))]
+fn judge(image: &[u8], more: usize) -> Result<(), Refused>
     requires { length image.now ≤ 65536 }
-    ensures { result ≡ verdict_of image.now more }
+    ensures { verdict_of result ≡ Spec.verdict_of image.now more }
 {
     if more != 0 {
-        return Verdict {
-            number: 2,
-            place: checker::verdict::NO_PLACE,
-        };
+        return Err(Refused::from(Refusal::CodeSize));
     }
     let layout = Layout {
         code_base: 0x10000,
@@ -33,29 +55,12 @@ fn judge(image: &[u8], more: usize) -> Verdict
     checker::check::check(layout, 196608, image)
 }
 
-fn print_place(out: &mut impl Write, place: u32) -> io::Result<()> {
-    if place == checker::verdict::NO_PLACE {
-        return write!(out, "-");
-    }
-    write!(out, "{place}")
-}
-
-fn print(out: &mut impl Write, v: Verdict, words: usize) -> io::Result<()> {
-    if v.number == 0 {
-        write!(out, "accept {words}")?;
-    } else {
-        let number = v.number;
-        write!(out, "refuse {number} ")?;
-        print_place(out, v.place)?;
-    }
-    writeln!(out)
-}
-
 fn main(rt: HostRuntime) -> io::Result<()> {
     let mut input = rt.stdin();
     let mut space = [0u8; LONGEST_MODULE];
     let n = input::read_full(&mut input, &mut space)?;
     let mut one = [0u8; 1];
     let more = input::read_full(&mut input, &mut one)?;
-    print(&mut rt.stdout(), judge(&space[..n], more), n / 4)
+    let said = judge(&space[..n], more);
+    writeln!(rt.stdout(), "{}", Answer { said, words: n / 4 })
 }

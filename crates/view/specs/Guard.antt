@@ -1,13 +1,12 @@
 -- The two words of a guard (document 01, Module and its guards): ANDI R,S,m and OR R,R,base.
-use Rattle.std.specs.Prelude.{ℕ, Bool, true, false, ◌&&◌, eqb}
+use Rattle.std.specs.Prelude.{ℕ, Bool, true, false, ◌&&◌, eqb, Option, Some, None}
+use Rattle.isa.specs.declared.kind.Instruction.{Instruction}
 use Rattle.isa.specs.declared.kind.Alu.{Alu}
 use Rattle.isa.specs.declared.kind.Alu.TheVariants.{Add, Addu, Sub, Subu, Slt, Sltu, And, Or, Xor, Nor}
 use Rattle.isa.specs.declared.kind.Immediate.{Immediate}
 use Rattle.isa.specs.declared.kind.Immediate.TheVariants.{Addi, Addiu, Slti, Sltiu, Andi, Ori, Xori, Lui}
 use Rattle.isa.specs.declared.kind.Kind.{Kind}
 use Rattle.isa.specs.declared.kind.Kind.TheVariants as K
-use Rattle.isa.specs.declared.reading.Reading.{Reading}
-use Rattle.isa.specs.declared.reading.Reading.TheVariants.{Legal, NoInstruction}
 use Rattle.isa.specs.Reading.{read_of}
 
 abbrev pub is_andi : Immediate → Bool
@@ -54,17 +53,17 @@ is_merge (K.System k) = false
 
 -- ---- words
 
-abbrev pub masks : ℕ → Reading → Bool
-masks r (Legal i) = is_mask i.kind && eqb i.rt r
-masks r NoInstruction = false
+abbrev pub masks : ℕ → Option Instruction → Bool
+masks r (Some i) = is_mask i.kind && eqb i.rt r
+masks r None = false
 
-abbrev pub merges : ℕ → ℕ → Reading → Bool
-merges base r (Legal i) = is_merge i.kind && (eqb i.rd r && (eqb i.rs r && eqb i.rt base))
-merges base r NoInstruction = false
+abbrev pub merges : ℕ → ℕ → Option Instruction → Bool
+merges base r (Some i) = is_merge i.kind && (eqb i.rd r && (eqb i.rs r && eqb i.rt base))
+merges base r None = false
 
-abbrev pub value_in : Reading → ℕ
-value_in (Legal i) = i.value
-value_in NoInstruction = 0
+abbrev pub value_in : Option Instruction → ℕ
+value_in (Some i) = i.value
+value_in None = 0
 
 -- word w is ANDI R,S,m, for some S and m
 unfoldable pub is_mask_of : ℕ → ℕ → Bool

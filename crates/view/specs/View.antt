@@ -1,5 +1,5 @@
 -- What the checker's rules look at in a word. The name is ours: document 01 names the instructions one by one.
-use Rattle.std.specs.Prelude.{ℕ, Bool, true, false, not, ◌&&◌, ◌||◌, eqb}
+use Rattle.std.specs.Prelude.{ℕ, Bool, true, false, not, ◌&&◌, ◌||◌, eqb, Option, Some, None}
 use Rattle.isa.specs.declared.kind.System.{System}
 use Rattle.isa.specs.declared.kind.System.TheVariants.{Syscall, Break, Rfe, Mfc0, Mtc0, Sync}
 use Rattle.isa.specs.declared.kind.Kind.{Kind}
@@ -8,8 +8,6 @@ use Rattle.isa.specs.declared.kind.Instruction.{Instruction}
 use Rattle.class.specs.declared.Class.{Class}
 use Rattle.class.specs.declared.Flow.{Flow}
 use Rattle.class.specs.declared.Flow.TheVariants.{Onward, Relative, Region, Register}
-use Rattle.isa.specs.declared.reading.Reading.{Reading}
-use Rattle.isa.specs.declared.reading.Reading.TheVariants.{Legal, NoInstruction}
 use Rattle.class.specs.Class.{class_of, register_written}
 use Rattle.isa.specs.Reading.{read_of}
 use Rattle.view.specs.declared.View.{View}
@@ -62,11 +60,8 @@ is_register Register = true
 abbrev pub classed : Instruction → Class → View
 classed i c =
     record {
-      legal = true;
       barred = is_barred i.kind i.value;
-      relative = is_relative c.flow;
-      region = is_region c.flow;
-      register = is_register c.flow;
+      flow = c.flow;
       link = c.link;
       width = c.width;
       written = register_written i;
@@ -78,43 +73,36 @@ classed i c =
 unfoldable pub seen : Instruction → View
 seen i = classed i (class_of i.kind)
 
--- what reads as no instruction, and what stands before the first word
-abbrev pub nothing : View
-nothing =
-    record {
-      legal = false;
-      barred = false;
-      relative = false;
-      region = false;
-      register = false;
-      link = false;
-      width = 0;
-      written = 0;
-      rs = 0;
-      rd = 0;
-      value = 0;
-    }
+-- none of what reads as no instruction
+abbrev pub view_of : Option Instruction → Option View
+view_of (Some i) = Some (seen i)
+view_of None = None
 
-abbrev pub view_of : Reading → View
-view_of (Legal i) = seen i
-view_of NoInstruction = nothing
-
-unfoldable pub word_view : ℕ → View
+unfoldable pub word_view : ℕ → Option View
 word_view w = view_of (read_of w)
 
 -- ---- what the rules ask of a view
 
+-- there is a view, and it passes test t
+abbrev pub passes : (View → Bool) → Option View → Bool
+passes t (Some v) = t v
+passes t None = false
+
 -- a branch or jump
 abbrev pub is_branch : View → Bool
-is_branch v = v.relative || (v.region || v.register)
+is_branch v = is_relative v.flow || (is_region v.flow || is_register v.flow)
 
 -- J, JAL, JR, JALR
 abbrev pub is_jump : View → Bool
-is_jump v = v.region || v.register
+is_jump v = is_region v.flow || is_register v.flow
+
+-- JR, JALR
+abbrev pub by_register : View → Bool
+by_register v = is_register v.flow
 
 -- an access, JR or JALR
 abbrev pub needs_guard : View → Bool
-needs_guard v = not (eqb v.width 0) || v.register
+needs_guard v = not (eqb v.width 0) || is_register v.flow
 
 -- the registers that hold the bases of data and code
 abbrev pub is_base : ℕ → Bool
@@ -122,5 +110,4 @@ is_base r = eqb r 26 || eqb r 27
 
 -- plain, a name of ours: an instruction that breaks none of 8 to 15, wherever it stands
 abbrev pub is_plain : View → Bool
-is_plain v =
-    v.legal && (not v.barred && (not (is_base v.written) && (not v.link && (eqb v.width 0 && not (is_branch v)))))
+is_plain v = not v.barred && (not (is_base v.written) && (not v.link && (eqb v.width 0 && not (is_branch v))))

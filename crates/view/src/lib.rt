@@ -4,141 +4,72 @@
 ghost use Rattle.std.specs.Prelude.{◌≡◌};
 ghost use Rattle.view.specs.View as Spec;
 
-use class::Flow;
+use class::{Flow, class_of, named};
 use isa::kind::{Instruction, Kind, System};
-use isa::reading::Reading;
 
 #[derive(Clone, Copy)]
 pub struct View {
-    // reads as an instruction
-    pub legal: bool,
     // MFC0, MTC0, RFE, or BREAK with code 15
     pub barred: bool,
-    // a branch, which counts from its slot
-    pub relative: bool,
-    // J, JAL
-    pub region: bool,
-    // JR, JALR
-    pub register: bool,
+    pub flow: Flow,
     // leaves a link
     pub link: bool,
-    // bytes loaded or stored; 0: not an access
+    // Bytes loaded or stored; 0: not an access. A number and no Option, which is no plainer: the rules add it up as it is.
     pub width: u32,
-    // the register written; 0: none
+    // The register written; 0, which takes no write, where there is none.
     pub written: u32,
     pub rs: u32,
     pub rd: u32,
     pub value: u32,
 }
 
-fn is_barred_system(k: System, value: u32) -> bool
-    ensures { result ≡ Spec.is_barred_system k value }
+// The registers that hold the bases of data and code.
+pub fn is_base(r: u32) -> bool
+    ensures { result ≡ Spec.is_base r }
 {
-    match k {
-        System::Syscall => false,
-        System::Break => value == 15,
-        System::Rfe => true,
-        System::Mfc0 => true,
-        System::Mtc0 => true,
-        System::Sync => false,
-    }
+    matches!(r, 26 | 27)
 }
 
 fn is_barred(k: Kind, value: u32) -> bool
     ensures { result ≡ Spec.is_barred k value }
 {
     match k {
-        Kind::Alu(_) => false,
-        Kind::Immediate(_) => false,
-        Kind::Shift(_) => false,
-        Kind::Multiply(_) => false,
-        Kind::Access(_) => false,
-        Kind::Branch(_) => false,
-        Kind::Trap(_) => false,
-        Kind::System(x) => is_barred_system(x, value),
+        Kind::System(System::Mfc0 | System::Mtc0 | System::Rfe) => true,
+        Kind::System(System::Break) => value == 15,
+        _ => false,
     }
 }
 
-fn is_relative(f: Flow) -> bool
-    ensures { result ≡ Spec.is_relative f }
-{
-    match f {
-        Flow::Onward => false,
-        Flow::Relative => true,
-        Flow::Region => false,
-        Flow::Register => false,
+impl View {
+    // a branch or jump
+    pub fn is_branch(self) -> bool
+        ensures { result ≡ Spec.is_branch self }
+    {
+        self.flow != Flow::Onward
     }
 }
 
-fn is_region(f: Flow) -> bool
-    ensures { result ≡ Spec.is_region f }
-{
-    match f {
-        Flow::Onward => false,
-        Flow::Relative => false,
-        Flow::Region => true,
-        Flow::Register => false,
-    }
-}
-
-fn is_register(f: Flow) -> bool
-    ensures { result ≡ Spec.is_register f }
-{
-    match f {
-        Flow::Onward => false,
-        Flow::Relative => false,
-        Flow::Region => false,
-        Flow::Register => true,
-    }
-}
-
+#[tactic(auto, using(crate::proofs::Views::written), unfolding(crate::specs::View::seen))]
 fn seen(i: Instruction) -> View
     ensures { result ≡ Spec.seen i }
 {
-    let kind = i.kind;
-    let class = class::class_of(kind);
-    let flow = class.flow;
-    let destination = class.destination;
+    let class = class_of(i.kind);
     View {
-        legal: true,
-        barred: is_barred(kind, i.value),
-        relative: is_relative(flow),
-        region: is_region(flow),
-        register: is_register(flow),
+        barred: is_barred(i.kind, i.value),
+        flow: class.flow,
         link: class.link,
         width: class.width,
-        written: class::named(destination, i),
+        written: named(class.destination, i),
         rs: i.rs,
         rd: i.rd,
         value: i.value,
     }
 }
 
-// No word: what stands before the first one, and what reads as no instruction.
-pub fn nothing() -> View
-    ensures { result ≡ Spec.nothing }
-{
-    View {
-        legal: false,
-        barred: false,
-        relative: false,
-        region: false,
-        register: false,
-        link: false,
-        width: 0,
-        written: 0,
-        rs: 0,
-        rd: 0,
-        value: 0,
-    }
-}
-
-pub fn of_word(word: u32) -> View
+// None where the word reads as no instruction.
+#[tactic(auto, unfolding(crate::specs::View::word_view))]
+pub fn of_word(word: u32) -> Option<View>
     ensures { result ≡ Spec.word_view word }
 {
-    let r = reader::read(word);
-    match r {
-        Reading::Legal(i) => seen(i),
-        Reading::NoInstruction => nothing(),
-    }
+    reader::read(word).map(seen)
 }

@@ -1,15 +1,8 @@
 -- Laws of masks and of numbers joined by `or`, over the width.
 use Rattle.std.proofs.Common.{◌≡◌, ℕ, ◌+◌, ◌-◌, ◌*◌, ◌/◌, ◌%◌, ◌^◌, ◌<◌, ◌≤◌, ap, ◌∙◌, arith, shl_exact}
-use lib.Bits.{bit_and, bit_or, and_mask, and_le_r, and_mod, and_zero_r, or_shifted}
+use lib.Bits.{bit_and, bit_or, and_mod, and_zero_r, or_shifted}
 use lib.Pow.{split}
-
--- a mask of k ones is the remainder by 2^k
-pub mask_mod : (k v : ℕ) → bit_and v (2 ^ k - 1) ≡ v % 2 ^ k
-mask_mod k v = and_mask v k
-
--- a masked number is at most the mask
-pub mask_le : (v m : ℕ) → bit_and v m ≤ m
-mask_le v m = and_le_r v m
+use Rattle.std.proofs.lemmas.Nat.{shl_below}
 
 -- a masked number is a multiple of each power of two that divides the mask
 pub mask_multiple : (k v m : ℕ) → m % 2 ^ k ≡ 0 → bit_and v m % 2 ^ k ≡ 0
@@ -22,6 +15,14 @@ or_sum k a b ha hb = rw (← whole) (or_shifted (a / 2 ^ k) k b hb)
     whole : a / 2 ^ k * 2 ^ k ≡ a
     whole = let e : a / 2 ^ k * 2 ^ k + a % 2 ^ k ≡ a = split a k in omega arith
 
--- `(a << k) | b` at 32 bits, where a has j bits, and b, which is s, has k
-pub place : (j k : ℕ) {a b s : ℕ} → a < 2 ^ j → j + k ≤ 32 → b ≡ s → s < 2 ^ k → bit_or (a * 2 ^ k % 2 ^ 32) b ≡ a * 2 ^ k + s
-place j k {a} {b} {s} ha hw e hb = rw (e, shl_exact {a = a} j k 32 ha hw) (or_shifted a k s hb)
+-- `x | b`, where x, which is s, has no ones among the k bits that b has
+pub below : (k : ℕ) {x s b : ℕ} → x ≡ s → s % 2 ^ k ≡ 0 → b < 2 ^ k → bit_or x b ≡ s + b
+below k {x} {s} {b} e h l = rw e (or_sum k s b h l)
+
+-- `x | (a << k)` at 32 bits, where a has j bits
+pub shifted_below : (j k : ℕ) {a x s : ℕ} → x ≡ s → s % 2 ^ (j + k) ≡ 0 → a < 2 ^ j → j + k ≤ 32 → bit_or x (a * 2 ^ k % 2 ^ 32) ≡ s + a * 2 ^ k
+shifted_below j k {a} e h l w = rw (shl_exact {a = a} j k 32 l w) (below (j + k) e h (shl_below a j k l))
+
+-- `(v << k) | x` at 32 bits, where v and x fit their places
+pub append : (k v x : ℕ) → k < 32 → v < 2 ^ (32 - k) → x < 2 ^ k → bit_or (v * 2 ^ k % 2 ^ 32) x ≡ v * 2 ^ k + x
+append k v x h hv hx = rw (shl_exact {a = v} (32 - k) k 32 hv (omega arith)) (or_shifted v k x hx)

@@ -1,20 +1,20 @@
 -- A word cut into its fields and put together again.
-use Rattle.std.proofs.Common.{◌≡◌, ℕ, ◌+◌, ◌*◌, ◌/◌, ◌%◌, ◌^◌, ◌<◌, sym, refl, ap, ◌∙◌, arith}
+use Rattle.std.proofs.Common.{◌≡◌, ℕ, ◌+◌, ◌*◌, ◌/◌, ◌%◌, ◌^◌, ◌<◌, sym, ap, ◌∙◌, arith}
 use lib.Bits.{bit_or}
 use lib.Pow.{mod-pow-add, split}
 use Rattle.word.specs.Field.{cut_of, join_of, Fit}
 use Rattle.word.specs.declared.field.Fields.{Fields}
-use Rattle.word.proofs.Bits.{place}
+use Rattle.word.proofs.Bits.{below, shifted_below}
 
 pub join_or : (f : Fields) → Fit f
-    → bit_or (f.op * 2 ^ 26 % 2 ^ 32) (bit_or (f.rs * 2 ^ 21 % 2 ^ 32) (bit_or (f.rt * 2 ^ 16 % 2 ^ 32) (bit_or (f.rd * 2 ^ 11 % 2 ^ 32) (bit_or (f.shift * 2 ^ 6 % 2 ^ 32) f.funct)))) ≡ join_of f
+    → bit_or (bit_or (bit_or (bit_or (bit_or (f.op * 2 ^ 26 % 2 ^ 32) (f.rs * 2 ^ 21 % 2 ^ 32)) (f.rt * 2 ^ 16 % 2 ^ 32)) (f.rd * 2 ^ 11 % 2 ^ 32)) (f.shift * 2 ^ 6 % 2 ^ 32)) f.funct ≡ join_of f
 join_or f h =
-    place 6 26 h.op (omega arith)
-    (place 5 21 h.rs (omega arith)
-    (place 5 16 h.rt (omega arith)
-    (place 5 11 h.rd (omega arith)
-    (place 5 6 h.shift (omega arith) refl h.funct)
-    (omega arith)) (omega arith)) (omega arith)) (omega arith)
+    let op : f.op * 2 ^ 26 % 2 ^ 32 ≡ f.op * 2 ^ 26 = omega (arith, h.op) in
+    let rs = shifted_below 5 21 op (omega arith) h.rs (omega arith) in
+    let rt = shifted_below 5 16 rs (omega arith) h.rt (omega arith) in
+    let rd = shifted_below 5 11 rt (omega arith) h.rd (omega arith) in
+    let shift = shifted_below 5 6 rd (omega arith) h.shift (omega arith) in
+    below 6 shift (omega arith) h.funct ∙ omega arith
 
 pub cut_fit : (w : ℕ) → w < 2 ^ 32 → Fit (cut_of w)
 cut_fit w h = omega arith

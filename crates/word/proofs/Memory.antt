@@ -1,5 +1,7 @@
 -- Laws of numbers in memory, over the width.
-use Rattle.std.proofs.Common.{◌≡◌, ℕ, zero, suc, ◌+◌, ◌*◌, ◌/◌, ◌%◌, ◌^◌, ◌<◌, ◌≤◌, List, [], ◌∷◌, length, get_or, set, refl, ◌∙◌, pow-suc, arith, length-set, get_or-set_other, get_or-set_same, shr-shr}
+use Rattle.std.proofs.Common.{◌≡◌, ℕ, zero, suc, ◌+◌, ◌*◌, ◌/◌, ◌%◌, ◌^◌, ◌<◌, ◌≤◌, List, [], ◌∷◌, ◌++◌, length, get_or, set, take, drop, refl, ◌∙◌, pow-suc, arith, length-set, get_or-set_other, get_or-set_same, shr-shr}
+use Rattle.std.specs.Int.{w32, to_le_bytes}
+use Rattle.std.proofs.lemmas.List.{append_assoc, drop_more, drop-set-lt, take_more_set, take-append-drop}
 use Rattle.word.specs.Bytes.{load_of, store_of}
 
 pub store_length : (n : ℕ) (m : List ℕ) (a v : ℕ) → length (store_of n m a v) ≡ length m
@@ -47,6 +49,20 @@ load_lt (suc n) m a b =
     let first : get_or m a 0 < 2 ^ 8 = b a in
     rw (pow-suc 256 n) (omega arith)
 
+pub pow_three : (k : ℕ) → k < 4 → 256 ^ k ≤ 2 ^ 24
+pow_three zero h = omega arith
+pow_three (suc zero) h = omega arith
+pow_three (suc (suc zero)) h = omega arith
+pow_three (suc (suc (suc zero))) h = omega arith
+pow_three (suc (suc (suc (suc k)))) h = omega arith
+
+-- above three bytes at most there is room in a word for one more
+pub load_three : (k : ℕ) (m : List ℕ) (a : ℕ) → k < 4 → ((i : ℕ) → get_or m i 0 < 2 ^ 8) → 256 * load_of k m a + 255 < 2 ^ 32
+load_three k m a h b =
+    let low : load_of k m a < 256 ^ k = load_lt k m a b in
+    let most : 256 ^ k ≤ 2 ^ 24 = pow_three k h in
+    omega arith
+
 -- what holds of every element and of the new one holds after it is set
 pub set_every : (P : ℕ → Type 0) (l : List ℕ) (a v : ℕ) → P v → ((i : ℕ) → P (get_or l i 0)) → (i : ℕ) → P (get_or (set l a v) i 0)
 set_every P [] a v h b i = b i
@@ -60,13 +76,30 @@ store_bytes zero m a v b i = b i
 store_bytes (suc n) m a v b i =
     store_bytes n (set m a (v % 256)) (a + 1) (v / 256) (set_every (λ x. x < 2 ^ 8) m a (v % 256) (omega arith) b) i
 
--- ---- a number by its halves
+-- ---- as the library has the bytes of a word
 
-pub load_halves : (m : List ℕ) (a : ℕ) → load_of 4 m a ≡ load_of 2 m a + 65536 * load_of 2 m (a + 2)
-load_halves m a = let e : a + 1 + 1 ≡ a + 2 = omega arith in rw (e) (omega arith)
+-- the low n bytes of v
+abbrev bytes_of : ℕ → ℕ → List ℕ
+bytes_of zero v = []
+bytes_of (suc n) v = v % 256 ∷ bytes_of n (v / 256)
 
-pub store_halves : (m : List ℕ) (a v : ℕ) → store_of 4 m a v ≡ store_of 2 (store_of 2 m a v) (a + 2) (v / 65536)
-store_halves m a v =
-    let e : a + 1 + 1 ≡ a + 2 = omega arith in
-    let d : v / 256 / 256 ≡ v / 65536 = shr-shr v 8 8 in
-    rw (e, d)
+bytes_taken : (n v : ℕ) → n ≤ 4 → take n (to_le_bytes w32 v) ≡ bytes_of n v
+bytes_taken zero v h = refl
+bytes_taken (suc zero) v h = refl
+bytes_taken (suc (suc zero)) v h = refl
+bytes_taken (suc (suc (suc zero))) v h = rw (shr-shr v 8 8)
+bytes_taken (suc (suc (suc (suc zero)))) v h = rw (shr-shr v 8 8, shr-shr v 16 8)
+bytes_taken (suc (suc (suc (suc (suc n))))) v h = absurd (omega arith)
+
+store_written : (n : ℕ) (m : List ℕ) (a v : ℕ) → a + n ≤ length m → take a m ++ (bytes_of n v ++ drop n (drop a m)) ≡ store_of n m a v
+store_written zero m a v h = take-append-drop a m
+store_written (suc n) m a v h =
+    let l : a < length m = omega arith in
+    let rest : take (a + 1) (set m a (v % 256)) ++ (bytes_of n (v / 256) ++ drop n (drop (a + 1) (set m a (v % 256)))) ≡ store_of (suc n) m a v =
+    store_written n (set m a (v % 256)) (a + 1) (v / 256) (simp length-set (omega arith)) in
+    let same : take a m ++ (v % 256 ∷ []) ++ (bytes_of n (v / 256) ++ drop n (drop (a + 1) m)) ≡ store_of (suc n) m a v =
+    rw (take_more_set m a (v % 256) l, drop-set-lt (a + 1) m a (v % 256) (omega arith)) at rest in
+    rw (drop_more m a 0 l) (rw append_assoc at same)
+
+pub store_copied : (n : ℕ) (m : List ℕ) (a v : ℕ) → a + n ≤ length m → n ≤ 4 → take a m ++ (take n (to_le_bytes w32 v) ++ drop n (drop a m)) ≡ store_of n m a v
+store_copied n m a v h k = rw (bytes_taken n v k) (store_written n m a v h)

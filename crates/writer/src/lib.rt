@@ -6,7 +6,7 @@ ghost use Rattle.isa.specs.Writing.{operand_fits, field_of, rest, rest_rs, encod
 
 use isa::format::{Drawing, Role};
 use isa::kind::Instruction;
-use isa::writing::Written;
+use isa::reading::is_control;
 use word::field::Fields;
 
 fn operand_fits(role: Role, x: u32) -> bool
@@ -14,50 +14,32 @@ fn operand_fits(role: Role, x: u32) -> bool
 {
     match role {
         Role::Operand => x < 32,
-        Role::Control => isa::reading::is_control(x),
-        Role::Fixed(_) => x == 0,
-        Role::Code => x == 0,
-        Role::Part => x == 0,
+        Role::Control => is_control(x),
+        Role::Fixed(_) | Role::Code | Role::Part => x == 0,
     }
 }
 
-// The field of five bits: the operand, the fixed number, the code, or the lowest part of the value.
-fn field5(role: Role, code: u32, v: u32, x: u32) -> u32
-    ensures { result ≡ field_of role code 5 v x }
+// The field of BITS bits: the operand, the fixed number, the code, or the lowest part of the value.
+fn field<const BITS: u32>(role: Role, code: u32, v: u32, x: u32) -> u32
+    requires { BITS < 32 }
+    ensures { result ≡ field_of role code BITS v x }
 {
     match role {
-        Role::Operand => x,
-        Role::Control => x,
+        Role::Operand | Role::Control => x,
         Role::Fixed(n) => n,
         Role::Code => code,
-        Role::Part => v & 31,
+        Role::Part => v % (1 << BITS),
     }
 }
 
-// The same of six bits.
-fn field6(role: Role, code: u32, v: u32, x: u32) -> u32
-    ensures { result ≡ field_of role code 6 v x }
+// What is left of the value for the fields above one of BITS bits.
+fn rest_of<const BITS: u32>(role: Role, v: u32) -> u32
+    requires { BITS < 32 }
+    ensures { result ≡ rest role BITS v }
 {
     match role {
-        Role::Operand => x,
-        Role::Control => x,
-        Role::Fixed(n) => n,
-        Role::Code => code,
-        Role::Part => v & 63,
-    }
-}
-
-// What is left of the value for the fields above one of so many bits.
-fn rest_of(role: Role, bits: u32, v: u32) -> u32
-    requires { bits < 32 }
-    ensures { result ≡ rest role bits v }
-{
-    match role {
-        Role::Operand => v,
-        Role::Control => v,
-        Role::Fixed(_) => v,
-        Role::Code => v,
-        Role::Part => v >> bits,
+        Role::Part => v >> BITS,
+        _ => v,
     }
 }
 
@@ -70,27 +52,21 @@ struct Encoded {
 fn encode(d: Drawing, code: u32, i: Instruction) -> Encoded
     ensures { (result.fields ≡ encode_of d code i) × (result.rest ≡ rest_rs d i.value) }
 {
-    let op = d.op;
-    let rs = d.rs;
-    let rt = d.rt;
-    let rd = d.rd;
-    let shift = d.shift;
-    let funct = d.funct;
-    let a = rest_of(funct, 6, i.value);
-    let b = rest_of(shift, 5, a);
-    let c = rest_of(rd, 5, b);
-    let e = rest_of(rt, 5, c);
+    let a = rest_of::<6>(d.funct, i.value);
+    let b = rest_of::<5>(d.shift, a);
+    let c = rest_of::<5>(d.rd, b);
+    let e = rest_of::<5>(d.rt, c);
     let fields = Fields {
-        op: field6(op, code, 0, 0),
-        rs: field5(rs, code, e, i.rs),
-        rt: field5(rt, code, c, i.rt),
-        rd: field5(rd, code, b, i.rd),
-        shift: field5(shift, code, a, i.shift),
-        funct: field6(funct, code, i.value, 0),
+        op: field::<6>(d.op, code, 0, 0),
+        rs: field::<5>(d.rs, code, e, i.rs),
+        rt: field::<5>(d.rt, code, c, i.rt),
+        rd: field::<5>(d.rd, code, b, i.rd),
+        shift: field::<5>(d.shift, code, a, i.shift),
+        funct: field::<6>(d.funct, code, i.value, 0),
     };
     Encoded {
         fields,
-        rest: rest_of(rs, 5, e),
+        rest: rest_of::<5>(d.rs, e),
     }
 }
 
@@ -98,29 +74,22 @@ fn is_legal(d: Drawing, i: Instruction, rest: u32) -> bool
     requires { rest ≡ rest_rs d i.value }
     ensures { result ≡ legal d i }
 {
-    let rs = d.rs;
-    let rt = d.rt;
-    let rd = d.rd;
-    let shift = d.shift;
-    let a = operand_fits(rs, i.rs);
-    let b = operand_fits(rt, i.rt);
-    let c = operand_fits(rd, i.rd);
-    let e = operand_fits(shift, i.shift);
+    let a = operand_fits(d.rs, i.rs);
+    let b = operand_fits(d.rt, i.rt);
+    let c = operand_fits(d.rd, i.rd);
+    let e = operand_fits(d.shift, i.shift);
     a & (b & (c & (e & (rest == 0))))
 }
 
-pub fn write(i: Instruction) -> Written
+pub fn write(i: Instruction) -> Option<u32>
     ensures { result ≡ write_of i }
 {
-    let kind = i.kind;
-    let shape = drawing::shape_of(kind);
-    let format = shape.format;
-    let d = drawing::drawing_of(format);
+    let shape = i.kind.shape();
+    let d = shape.format.drawing();
     let e = encode(d, shape.code, i);
     if is_legal(d, i, e.rest) {
-        let fields = e.fields;
-        Written::Word(word::field::join(fields))
+        Some(e.fields.join())
     } else {
-        Written::Refused
+        None
     }
 }

@@ -1,18 +1,9 @@
-use native.Mathlib.Omega.{arith}
-use Rattle.cc100.proofs.Calls.{read_state, read_too_long, read_no_state}
+use mathlib.Core.Path.{sym, ◌∙◌}
+use Rattle.std.proofs.lemmas.Result.{err_from_is_err_and}
+use Rattle.cc100.proofs.Calls.{reads_refused}
 use Rattle.cc100.proofs.read_state.Goals as goal
 
-pub returns-then-d-eq0 : goal.returns-then-d-eq0
-returns-then-d-eq0 c =
-    let a = c.args in
-    read_state a.bytes.now a.length _ c.decode-d.ensures c.if-d-eq0.true _ c.refusal.ensures
-
-pub returns-then-length-gt-LONGEST : goal.returns-then-length-gt-LONGEST
-returns-then-length-gt-LONGEST c =
-    let a = c.args in
-    read_too_long a.bytes.now a.length _ c.decode-d.ensures c.if-d-eq0.false (omega (arith, c.if-length-gt-LONGEST.true))
-
-pub returns : goal.returns
-returns c =
-    let a = c.args in
-    read_no_state a.bytes.now a.length _ c.decode-d.ensures c.if-d-eq0.false (omega (arith, c.if-length-gt-LONGEST.false))
+pub returns-in_err-refusal : goal.returns-in_err-refusal
+returns-in_err-refusal c =
+    let p = err_from_is_err_and c.from_residual-in_err-refusal.result c.from_residual-in_err-refusal.ensures.1 in
+    rw (p.1, p.2) (reads_refused c.args.bytes.now c.args.length c.in_ok-s.s (sym c.decode.ensures ∙ c.in_ok-s.was) _ c.in_err-refusal.ensures)

@@ -1,17 +1,22 @@
-use Rattle.std.proofs.Common.{ap, ◌∙◌, arith}
-use Rattle.table.specs.Tables.{entry_of}
+use Rattle.std.proofs.Common.{rules, ap, ◌∙◌}
+use Rattle.table.specs.declared.tables.Entry.TheVariants.{Empty}
+use Rattle.table.specs.Tables.{opcodes, functions, conditions, controls, entry_of}
+use Rattle.table.proofs.Lookup.{whole}
 use Rattle.table.proofs.Reading.{to_function, to_condition, to_control, to_none}
+use Rattle.table.proofs.entry.Goals.{in-Special, in-Regimm, in-Cop0, in_default}
 use Rattle.table.proofs.entry.Goals as goal
 
-pub returns-in-100 : goal.returns-in-100
-returns-in-100 c = to_function c.cut-f.result c.by_opcode-e.ensures c.in-100.is c.by_function.ensures ∙ ap entry_of c.cut-f.ensures.0
-
-pub returns-in-101 : goal.returns-in-101
-returns-in-101 c = to_condition c.cut-f.result c.by_opcode-e.ensures c.in-101.is c.by_condition.ensures ∙ ap entry_of c.cut-f.ensures.0
-
-pub returns-in-102 : goal.returns-in-102
-returns-in-102 c = to_control c.cut-f.result c.by_opcode-e.ensures c.in-102.is c.by_control.ensures ∙ ap entry_of c.cut-f.ensures.0
-
-pub returns-in_default : goal.returns-in_default
-returns-in_default c =
-    to_none c.cut-f.result c.by_opcode-e.ensures (omega arith) (omega arith) (omega arith) ∙ ap entry_of c.cut-f.ensures.0
+pub returns : goal.returns
+unfolding opcodes functions conditions controls
+returns c =
+    let f = c.from-f.result in
+    let p = c.entry_in-first.ensures in
+    let q = c.kind.ensures in
+    let last = c.match-first.last in
+    elim c.match-first.branch [
+      | in-Special w ↦ to_function f p last q w.in-Special.is (w.last-is ∙ w.entry_in-last.ensures)
+      | in-Regimm w ↦ to_condition f p last q w.in-Regimm.is (w.last-is ∙ whole conditions f.rt Empty (search rules) w.entry_at-last.ensures)
+      | in-Cop0 w ↦ to_control f p last q w.in-Cop0.is (w.last-is ∙ whole controls f.rs Empty (search rules) w.entry_at-last-in-Cop0.ensures)
+      | in_default w ↦ to_none f p last q (search rules) (search rules) (search rules) w.last-is
+    ]
+    ∙ ap entry_of c.from-f.ensures.0

@@ -8,10 +8,10 @@ returns c =
     c.rest_of-b.ensures
     c.rest_of-c.ensures
     c.rest_of-e.ensures
-    c.field6.ensures
-    c.field5.ensures
-    c.field5-2.ensures
-    c.field5-3.ensures
-    c.field5-4.ensures
-    c.field6-2.ensures
+    c.field.ensures
+    c.field-2.ensures
+    c.field-3.ensures
+    c.field-4.ensures
+    c.field-5.ensures
+    c.field-6.ensures
     c.rest_of.ensures

@@ -5,20 +5,20 @@ use Rattle.writer.proofs.write.Goals as goal
 pub join-requires : goal.join-requires
 join-requires c =
     written_fit c.args.i
-    (drawing_found c.args.i c.shape_of-shape.ensures c.drawing_of-d.ensures)
-    (ap code c.shape_of-shape.ensures)
+    (drawing_found c.args.i c.shape-shape.ensures c.drawing-d.ensures)
+    (ap code c.shape-shape.ensures)
     c.encode-e.ensures.0 c.is_legal.ensures c.if-is_legal.true
 
 pub returns-then-is_legal : goal.returns-then-is_legal
 returns-then-is_legal c =
     written c.args.i
-    (drawing_found c.args.i c.shape_of-shape.ensures c.drawing_of-d.ensures)
-    (ap code c.shape_of-shape.ensures)
+    (drawing_found c.args.i c.shape-shape.ensures c.drawing-d.ensures)
+    (ap code c.shape-shape.ensures)
     c.encode-e.ensures.0 c.is_legal.ensures c.if-is_legal.true c.join.ensures
 
 pub returns-else-is_legal : goal.returns-else-is_legal
 returns-else-is_legal c =
     refused c.args.i
-    (drawing_found c.args.i c.shape_of-shape.ensures c.drawing_of-d.ensures)
-    (ap code c.shape_of-shape.ensures)
+    (drawing_found c.args.i c.shape-shape.ensures c.drawing-d.ensures)
+    (ap code c.shape-shape.ensures)
     c.encode-e.ensures.0 c.is_legal.ensures c.if-is_legal.false

@@ -1,20 +1,11 @@
-use Rattle.std.proofs.Common.{◌≡◌, ◌-◌, ◌≤◌, length}
-use Rattle.effect.specs.declared.effect.Touched.{Touched}
-use Rattle.effect.specs.Touched.{Keeps}
+use Rattle.std.proofs.Common.{◌≡◌, ◌-◌, length}
 use Rattle.machine.specs.State.{join_of, refusal_of}
 use Rattle.machine.specs.Run.{later, repeat_of}
 use Rattle.machine.proofs.run.repeat.Given as goal
 
--- the state is not refused, two words keep the last access, and what is left to run from here gives the whole answer
+-- the state is not refused, and what is left to run from here gives the whole answer
 abbrev pub invariant-loop-steps : goal.invariant-loop-steps
 invariant-loop-steps l =
-    (l.steps ≤ l.budget)
-    × (length l.memory ≡ length l.initial.memory)
-    × (refusal_of (join_of l.registers l.special) (length l.initial.memory) ≡ 0)
-    × ((t : Touched)
-    × (Keeps l.last t
-    × (later l.steps t (repeat_of (l.budget - l.steps) (join_of l.registers l.special) l.memory)
-    ≡ repeat_of l.budget (join_of l.initial.registers l.initial.special) l.initial.memory)))
-
-abbrev pub decreases-loop-steps : goal.decreases-loop-steps
-decreases-loop-steps l = l.budget - l.steps
+    (refusal_of (join_of l.registers l.special) (length l.initial.memory) ≡ 0)
+    × (later l.steps l.touched (repeat_of (l.budget - l.steps) (join_of l.registers l.special) l.memory)
+    ≡ repeat_of l.budget (join_of l.initial.registers l.initial.special) l.initial.memory)

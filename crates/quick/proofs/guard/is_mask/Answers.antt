@@ -2,4 +2,4 @@ use Rattle.quick.proofs.Guards.{mask_told}
 use Rattle.quick.proofs.guard.is_mask.Goals as goal
 
 pub returns : goal.returns
-returns c = mask_told _ c.cut-f.ensures.0 _
+returns c = mask_told _ c.from-f.ensures.0 _

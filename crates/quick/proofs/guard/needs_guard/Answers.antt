@@ -5,4 +5,4 @@ use Rattle.quick.proofs.guard.needs_guard.Goals as goal
 
 pub returns : goal.returns
 unfolding is_in opcodes
-returns c = needs_guard_law _ c.cut-f.ensures.0 c.cut-f.ensures.1 _ c.has.ensures c.is_register_jump.ensures tt tt
+returns c = needs_guard_law _ c.from-f.ensures.0 c.from-f.ensures.1 _ c.has.ensures c.is_register_jump.ensures tt tt

@@ -1,7 +1,0 @@
-use mathlib.Core.Path.{refl}
-use Rattle.access.specs.Access.{reaches}
-use Rattle.access.proofs.reaches4.Goals as goal
-
-pub returns : goal.returns
-unfolding reaches
-returns c = refl

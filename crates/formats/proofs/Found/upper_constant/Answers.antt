@@ -1,0 +1,12 @@
+use mathlib.Core.Path.{ap, ◌∙◌}
+use native.Mathlib.Omega.{arith}
+use Rattle.isa.proofs.Formats.{upper_constant}
+use Rattle.isa.proofs.Codes.{table_of}
+use Rattle.formats.proofs.Tables.{opcode, then_legal}
+use Rattle.formats.proofs.Found.upper_constant.Goals as goal
+
+pub returns : goal.returns
+returns c =
+    let f = c.from-f.result in
+    opcode (omega arith) c.args.self.leads f c.from-f.ensures.0 (ap table_of c.requires)
+    (λ p. upper_constant c.args.self.kind f c.requires p c.low16.ensures c.instruction.ensures (c.then_some.ensures ∙ then_legal _ _))

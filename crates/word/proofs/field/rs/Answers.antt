@@ -1,6 +1,0 @@
-use Rattle.std.proofs.Common.{ap}
-use Rattle.word.specs.declared.field.Fields.{Fields}
-use Rattle.word.proofs.field.rs.Goals as goal
-
-pub returns : goal.returns
-returns c = ap (λ (f : Fields). f.rs) c.cut-f.ensures.0
