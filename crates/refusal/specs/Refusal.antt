@@ -1,5 +1,5 @@
 -- The number of each refusal (document 01, Refusal table; document 02, Tickets 1 and 2), and the number that stands for what may be one.
-use Rattle.std.specs.Prelude.{ℕ, ◌≡◌, Result, Ok, Err}
+use Rattle.std.specs.Prelude.{ℕ, ◌≡◌, Bool, true, false, Result, Ok, Err}
 use Rattle.refusal.specs.declared.Refusal.{Refusal}
 use Rattle.refusal.specs.declared.Refusal.TheVariants.{MemoryTooLong, CodeSize, DataSize, CodePlace, DataPlace, Overlap, ImageLength, NoInstruction, Barred, WritesBase, LinkOverBase, DataGuard, CodeGuard, BranchAfterBranch, Target, NoLastJump, State, IllegalField, NotServed, NotForward, LastBundle}
 
@@ -33,3 +33,7 @@ IsNumberOf r n = n ≡ number_of r
 abbrev pub refused_number : {A : Type 0} → Result A Refusal → ℕ
 refused_number (Ok x) = 0
 refused_number (Err r) = number_of r
+
+abbrev pub refused_when : Refusal → Bool → Result Unit Refusal
+refused_when r true = Err r
+refused_when r false = Ok tt

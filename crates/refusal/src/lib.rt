@@ -26,6 +26,18 @@ pub enum Refusal {
     LastBundle = 21,
 }
 
+impl Refusal {
+    ghost use Rattle.std.specs.Prelude.{◌≡◌};
+    ghost use Rattle.refusal.specs.Refusal.{refused_when};
+
+    // Refused by this one, where its rule is broken.
+    pub fn when(self, broken: bool) -> Result<(), Refusal>
+        ensures { result ≡ refused_when self broken }
+    {
+        if broken { Err(self) } else { Ok(()) }
+    }
+}
+
 impl From<Refusal> for u32 {
     ghost use Rattle.refusal.specs.Refusal.{IsNumberOf};
 
