@@ -1,10 +1,11 @@
 -- Document 004, sections 1.1.5 and 1.1.7: loads and stores, each beside its Operation in 1.2. a is GPR[base], b is GPR[rt], n the memory's length.
-use Rattle.std.specs.Prelude.{ℕ, ◌+◌, ◌%◌, Bool, true, false, cond, ◌&&◌, eqb, leb}
+use Rattle.std.specs.Prelude.{ℕ, ◌+◌, ◌%◌, Bool, true, false, cond, ◌&&◌, eqb, leb, Result, Ok, Err}
 use Rattle.word.specs.Number.{extend_of, sum_of}
 use Rattle.isa.specs.declared.kind.Access.{Access}
 use Rattle.isa.specs.declared.kind.Access.TheVariants.{Lb, Lbu, Sb, Lh, Lhu, Sh, Lw, Sw, Ll, Sc}
 use Rattle.effect.specs.declared.effect.Effect.{Effect}
-use Rattle.effect.specs.declared.effect.Effect.TheVariants.{Exit, Write, LoadByte, LoadHalf, LoadWord, LoadLinked, StoreByte, StoreHalf, StoreWord, StoreLinked}
+use Rattle.effect.specs.declared.effect.Effect.TheVariants.{Write, LoadByte, LoadHalf, LoadWord, LoadLinked, StoreByte, StoreHalf, StoreWord, StoreLinked}
+use Rattle.effect.specs.declared.exit.Exit.{Exit}
 use Rattle.effect.specs.declared.exit.Exit.TheVariants as E
 
 -- the effective address: the signed offset is added to the base
@@ -15,17 +16,17 @@ address_of base offset = sum_of base (extend_of 16 offset)
 unfoldable pub reaches : ℕ → ℕ → ℕ → Bool
 reaches w address n = eqb (address % w) 0 && leb (address + w) n
 
-unfoldable pub load_if : Bool → Effect → Effect
-load_if t e = cond t e (Exit E.Load)
+unfoldable pub load_if : Bool → Effect → Result Effect Exit
+load_if t e = cond t (Ok e) (Err E.Load)
 
-unfoldable pub store_if : Bool → Effect → Effect
-store_if t e = cond t e (Exit E.Store)
+unfoldable pub store_if : Bool → Effect → Result Effect Exit
+store_if t e = cond t (Ok e) (Err E.Store)
 
 -- SC looks at the LL bit and never at the address that LL used (document 01, Machine)
 unfoldable pub conditional : Bool → ℕ → ℕ → ℕ → Effect
 conditional ll rt address b = cond ll (StoreLinked rt address b) (Write rt 0)
 
-abbrev pub access_of : Access → ℕ → ℕ → ℕ → ℕ → Bool → ℕ → Effect
+abbrev pub access_of : Access → ℕ → ℕ → ℕ → ℕ → Bool → ℕ → Result Effect Exit
 access_of Lb rt a b v ll n = load_if (reaches 1 (address_of a v) n) (LoadByte rt (address_of a v) true)
 access_of Lbu rt a b v ll n = load_if (reaches 1 (address_of a v) n) (LoadByte rt (address_of a v) false)
 access_of Sb rt a b v ll n = store_if (reaches 1 (address_of a v) n) (StoreByte (address_of a v) b)

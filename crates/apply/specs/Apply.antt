@@ -3,12 +3,11 @@ use Rattle.std.specs.Prelude.{ℕ, true, false, List}
 use Rattle.word.specs.Bytes.{load_of, store_of}
 use Rattle.effect.specs.declared.effect.Special.{Special}
 use Rattle.effect.specs.declared.effect.Effect.{Effect}
-use Rattle.effect.specs.declared.effect.Effect.TheVariants.{Exit, Advance, Write, Pair, Jump, Link, LoadByte, LoadHalf, LoadWord, LoadLinked, StoreByte, StoreHalf, StoreWord, StoreLinked, Control, Return}
+use Rattle.effect.specs.declared.effect.Effect.TheVariants.{Advance, Write, Pair, Jump, Link, LoadByte, LoadHalf, LoadWord, LoadLinked, StoreByte, StoreHalf, StoreWord, StoreLinked, Control, Return}
 use Rattle.parts.specs.Parts.{Parts, parts, put_of, jump_of, advance_of, pair_of, linked_of, status_of, controlled_of, loaded_of}
 
 -- LL sets the LL bit wherever it loads, as all memory counts as cacheable data (document 01, Machine)
 abbrev pub applied_of : Effect → List ℕ → Special → List ℕ → Parts
-applied_of (Exit e) l c m = parts l c m
 applied_of Advance l c m = parts l (advance_of c) m
 applied_of (Write r v) l c m = parts (put_of l r v) (advance_of c) m
 applied_of (Pair h o) l c m = parts l (pair_of (advance_of c) h o) m

@@ -16,49 +16,48 @@ pub fn apply(
     c: Special,
     registers: &mut [u32; 32],
     memory: &mut [u8],
-    last: &mut Touched,
+    last: &mut Option<Touched>,
 ) -> Special
     requires { Performable e (length memory.old) }
     ensures applied { parts registers.new result memory.new ≡ applied_of e registers.old c memory.old }
     ensures access { last.new ≡ last_of last.old (touched_of e) }
 {
     match e {
-        Effect::Exit(_) => c,
         Effect::Advance => advance(c),
         Effect::Write(r, v) => write(registers, r, v, c),
         Effect::Pair(hi, lo) => pair(advance(c), hi, lo),
         Effect::Jump(target) => jump(c, target),
         Effect::Link(r, v, target) => link(registers, r, v, target, c),
         Effect::LoadByte(r, a, signed) => {
-            *last = Touched::Load(a, 1);
+            *last = Some(Touched::Load(a, 1));
             write(registers, r, loaded::<1, 8>(memory, a, signed), c)
         }
         Effect::LoadHalf(r, a, signed) => {
-            *last = Touched::Load(a, 2);
+            *last = Some(Touched::Load(a, 2));
             write(registers, r, loaded::<2, 16>(memory, a, signed), c)
         }
         Effect::LoadWord(r, a) => {
-            *last = Touched::Load(a, 4);
+            *last = Some(Touched::Load(a, 4));
             write(registers, r, load::<4>(memory, a as usize), c)
         }
         Effect::LoadLinked(r, a) => {
-            *last = Touched::Load(a, 4);
+            *last = Some(Touched::Load(a, 4));
             linked(write(registers, r, load::<4>(memory, a as usize), c), true)
         }
         Effect::StoreByte(a, v) => {
-            *last = Touched::Store(a, 1);
+            *last = Some(Touched::Store(a, 1));
             store::<1>(memory, a, v, c)
         }
         Effect::StoreHalf(a, v) => {
-            *last = Touched::Store(a, 2);
+            *last = Some(Touched::Store(a, 2));
             store::<2>(memory, a, v, c)
         }
         Effect::StoreWord(a, v) => {
-            *last = Touched::Store(a, 4);
+            *last = Some(Touched::Store(a, 4));
             store::<4>(memory, a, v, c)
         }
         Effect::StoreLinked(r, a, v) => {
-            *last = Touched::Store(a, 4);
+            *last = Some(Touched::Store(a, 4));
             store_linked(registers, memory, r, a, v, c)
         }
         Effect::Control(r, v) => controlled(advance(c), r, v),

@@ -1,5 +1,5 @@
 -- Document 004, sections 1.1.1 to 1.1.4: one clause for each instruction, beside its Operation in 1.2. a is GPR[rs], b is GPR[rt].
-use Rattle.std.specs.Prelude.{ℕ, ◌*◌, ◌-◌, ◌%◌, ◌/◌, ◌^◌, Bool, cond, eqb, ltb, Option, Some, None, ℤ, ◌+ℤ◌, ◌-ℤ◌, ◌*ℤ◌}
+use Rattle.std.specs.Prelude.{ℕ, ◌*◌, ◌-◌, ◌%◌, ◌/◌, ◌^◌, Bool, cond, eqb, ltb, Result, Ok, Err, ℤ, ◌+ℤ◌, ◌-ℤ◌, ◌*ℤ◌}
 use Rattle.std.specs.Int.Bits.{bit_and, bit_or, bit_xor}
 use Rattle.std.specs.Int.Signed.{lt_z, quot_z, rem_z, shr_z}
 use Rattle.word.specs.Number.{signed_of, fits_of, wrap_of, extend_of, sum_of, difference_of}
@@ -12,7 +12,8 @@ use Rattle.isa.specs.declared.kind.Shift.TheVariants.{Sll, Srl, Sra, Sllv, Srlv,
 use Rattle.isa.specs.declared.kind.Multiply.{Multiply}
 use Rattle.isa.specs.declared.kind.Multiply.TheVariants.{Mult, Multu, Div, Divu, Mfhi, Mthi, Mflo, Mtlo}
 use Rattle.effect.specs.declared.effect.Effect.{Effect}
-use Rattle.effect.specs.declared.effect.Effect.TheVariants.{Exit, Advance, Write, Pair}
+use Rattle.effect.specs.declared.effect.Effect.TheVariants.{Advance, Write, Pair}
+use Rattle.effect.specs.declared.exit.Exit.{Exit}
 use Rattle.effect.specs.declared.exit.Exit.TheVariants as E
 
 -- a test's answer in a register: 0^31 || 1, or 0^32
@@ -20,37 +21,32 @@ unfoldable pub bit : Bool → ℕ
 bit t = cond t 1 0
 
 -- register r gets the integer z, unless 32 bits do not hold it
-unfoldable pub checked : ℕ → ℤ → Effect
-checked r z = cond (fits_of 32 z) (Write r (wrap_of 32 z)) (Exit E.IntegerOverflow)
-
--- register r gets the word, where there is one
-abbrev pub written : ℕ → Option ℕ → Effect
-written r (Some v) = Write r v
-written r None = Exit E.IntegerOverflow
+unfoldable pub checked : ℕ → ℤ → Result Effect Exit
+checked r z = cond (fits_of 32 z) (Ok (Write r (wrap_of 32 z))) (Err E.IntegerOverflow)
 
 -- 1.1.1, 3-operand ALU; XOR has no exception (document 01, Machine)
-abbrev pub alu_of : Alu → ℕ → ℕ → ℕ → Effect
+abbrev pub alu_of : Alu → ℕ → ℕ → ℕ → Result Effect Exit
 alu_of Add rd a b = checked rd (signed_of 32 a +ℤ signed_of 32 b)
-alu_of Addu rd a b = Write rd (sum_of a b)
+alu_of Addu rd a b = Ok (Write rd (sum_of a b))
 alu_of Sub rd a b = checked rd (signed_of 32 a -ℤ signed_of 32 b)
-alu_of Subu rd a b = Write rd (difference_of a b)
-alu_of Slt rd a b = Write rd (bit (lt_z (signed_of 32 a) (signed_of 32 b)))
-alu_of Sltu rd a b = Write rd (bit (ltb a b))
-alu_of And rd a b = Write rd (bit_and a b)
-alu_of Or rd a b = Write rd (bit_or a b)
-alu_of Xor rd a b = Write rd (bit_xor a b)
-alu_of Nor rd a b = Write rd (2 ^ 32 - 1 - bit_or a b)
+alu_of Subu rd a b = Ok (Write rd (difference_of a b))
+alu_of Slt rd a b = Ok (Write rd (bit (lt_z (signed_of 32 a) (signed_of 32 b))))
+alu_of Sltu rd a b = Ok (Write rd (bit (ltb a b)))
+alu_of And rd a b = Ok (Write rd (bit_and a b))
+alu_of Or rd a b = Ok (Write rd (bit_or a b))
+alu_of Xor rd a b = Ok (Write rd (bit_xor a b))
+alu_of Nor rd a b = Ok (Write rd (2 ^ 32 - 1 - bit_or a b))
 
 -- 1.1.2, ALU with an immediate operand; SLTI and SLTIU write rt (document 01, Machine), and SLTIU's constant is sign-extended (Traps for the builder)
-abbrev pub immediate_of : Immediate → ℕ → ℕ → ℕ → Effect
+abbrev pub immediate_of : Immediate → ℕ → ℕ → ℕ → Result Effect Exit
 immediate_of Addi rt a v = checked rt (signed_of 32 a +ℤ signed_of 32 (extend_of 16 v))
-immediate_of Addiu rt a v = Write rt (sum_of a (extend_of 16 v))
-immediate_of Slti rt a v = Write rt (bit (lt_z (signed_of 32 a) (signed_of 32 (extend_of 16 v))))
-immediate_of Sltiu rt a v = Write rt (bit (ltb a (extend_of 16 v)))
-immediate_of Andi rt a v = Write rt (bit_and a (v % 2 ^ 16))
-immediate_of Ori rt a v = Write rt (bit_or a (v % 2 ^ 16))
-immediate_of Xori rt a v = Write rt (bit_xor a (v % 2 ^ 16))
-immediate_of Lui rt a v = Write rt (v % 2 ^ 16 * 2 ^ 16)
+immediate_of Addiu rt a v = Ok (Write rt (sum_of a (extend_of 16 v)))
+immediate_of Slti rt a v = Ok (Write rt (bit (lt_z (signed_of 32 a) (signed_of 32 (extend_of 16 v)))))
+immediate_of Sltiu rt a v = Ok (Write rt (bit (ltb a (extend_of 16 v))))
+immediate_of Andi rt a v = Ok (Write rt (bit_and a (v % 2 ^ 16)))
+immediate_of Ori rt a v = Ok (Write rt (bit_or a (v % 2 ^ 16)))
+immediate_of Xori rt a v = Ok (Write rt (bit_xor a (v % 2 ^ 16)))
+immediate_of Lui rt a v = Ok (Write rt (v % 2 ^ 16 * 2 ^ 16))
 
 -- a word shifted by k bits, SLL and SLLV by their Purpose, as their Operation moves nothing; the arithmetical shift rounds the signed integer down
 unfoldable pub shifted_left : ℕ → ℕ → ℕ

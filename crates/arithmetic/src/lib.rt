@@ -11,49 +11,45 @@ use isa::kind::{Alu, Immediate, Multiply, Shift};
 // What a division by zero does.
 const ZERO_DIVISOR: Effect = Effect::Advance;
 
-// Register r gets the word, where there is one.
-fn checked(register: u32, word: Option<u32>) -> Effect
-    ensures { result ≡ Spec.written register word }
-{
-    match word {
-        Some(v) => Effect::Write(register, v),
-        None => Effect::Exit(Exit::IntegerOverflow),
-    }
-}
-
-#[tactic(auto, using(crate::proofs::Sums::written_checked), unfolding(crate::specs::Arithmetic::bit))]
-pub fn alu(k: Alu, rd: u32, a: u32, b: u32) -> Effect
+#[tactic(auto, using(crate::proofs::Sums::sum_written, crate::proofs::Sums::sum_exits), unfolding(crate::specs::Arithmetic::bit))]
+pub fn alu(k: Alu, rd: u32, a: u32, b: u32) -> Result<Effect, Exit>
     ensures { result ≡ Spec.alu_of k rd a b }
 {
-    match k {
-        Alu::Add => checked(rd, signed::checked_sum(a, b)),
-        Alu::Addu => Effect::Write(rd, word::number::sum(a, b)),
-        Alu::Sub => checked(rd, signed::checked_difference(a, b)),
-        Alu::Subu => Effect::Write(rd, word::number::difference(a, b)),
+    Ok(match k {
+        Alu::Add => Effect::Write(rd, signed::checked_sum(a, b).ok_or(Exit::IntegerOverflow)?),
+        Alu::Addu => Effect::Write(rd, a.wrapping_add(b)),
+        Alu::Sub => Effect::Write(
+            rd,
+            signed::checked_difference(a, b).ok_or(Exit::IntegerOverflow)?,
+        ),
+        Alu::Subu => Effect::Write(rd, a.wrapping_sub(b)),
         Alu::Slt => Effect::Write(rd, u32::from(signed::less(a, b))),
         Alu::Sltu => Effect::Write(rd, u32::from(a < b)),
         Alu::And => Effect::Write(rd, a & b),
         Alu::Or => Effect::Write(rd, a | b),
         Alu::Xor => Effect::Write(rd, a ^ b),
         Alu::Nor => Effect::Write(rd, !(a | b)),
-    }
+    })
 }
 
-#[tactic(auto, using(crate::proofs::Sums::written_checked), unfolding(crate::specs::Arithmetic::bit))]
-pub fn immediate(k: Immediate, rt: u32, a: u32, v: u32) -> Effect
+#[tactic(auto, using(crate::proofs::Sums::sum_written, crate::proofs::Sums::sum_exits), unfolding(crate::specs::Arithmetic::bit))]
+pub fn immediate(k: Immediate, rt: u32, a: u32, v: u32) -> Result<Effect, Exit>
     ensures { result ≡ Spec.immediate_of k rt a v }
 {
     let x = word::number::extend::<16>(v);
-    match k {
-        Immediate::Addi => checked(rt, signed::checked_sum(a, x)),
-        Immediate::Addiu => Effect::Write(rt, word::number::sum(a, x)),
+    Ok(match k {
+        Immediate::Addi => Effect::Write(
+            rt,
+            signed::checked_sum(a, x).ok_or(Exit::IntegerOverflow)?,
+        ),
+        Immediate::Addiu => Effect::Write(rt, a.wrapping_add(x)),
         Immediate::Slti => Effect::Write(rt, u32::from(signed::less(a, x))),
         Immediate::Sltiu => Effect::Write(rt, u32::from(a < x)),
-        Immediate::Andi => Effect::Write(rt, a & (v % 65536)),
-        Immediate::Ori => Effect::Write(rt, a | (v % 65536)),
-        Immediate::Xori => Effect::Write(rt, a ^ (v % 65536)),
-        Immediate::Lui => Effect::Write(rt, v % 65536 * 65536),
-    }
+        Immediate::Andi => Effect::Write(rt, a & (v & 0xFFFF)),
+        Immediate::Ori => Effect::Write(rt, a | (v & 0xFFFF)),
+        Immediate::Xori => Effect::Write(rt, a ^ (v & 0xFFFF)),
+        Immediate::Lui => Effect::Write(rt, v << 16),
+    })
 }
 
 #[tactic(auto, unfolding(crate::specs::Arithmetic::shifted_left, crate::specs::Arithmetic::shifted_right, crate::specs::Arithmetic::shifted_signed))]
@@ -74,7 +70,7 @@ pub fn shift(k: Shift, rd: u32, a: u32, b: u32, sa: u32) -> Effect
 fn product(p: u64) -> Effect
     ensures { result ≡ Spec.product p }
 {
-    Effect::Pair((p / 4294967296) as u32, (p % 4294967296) as u32)
+    Effect::Pair((p >> 32) as u32, (p & 0xFFFF_FFFF) as u32)
 }
 
 #[tactic(auto, unfolding(crate::specs::Arithmetic::divided))]

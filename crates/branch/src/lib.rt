@@ -1,7 +1,8 @@
 // Jumps and branches. a is GPR[rs], b is GPR[rt].
 #![tactic(auto)]
 
-ghost use Rattle.std.specs.Prelude.{◌≡◌};
+ghost use Rattle.std.specs.Prelude.{◌≡◌, ◌%◌, cond, eqb, Ok, Err};
+ghost use Rattle.effect.specs.declared.exit.Exit.TheVariants as E;
 ghost use Rattle.branch.specs.Branch as Spec;
 
 use effect::effect::Effect;
@@ -13,28 +14,28 @@ use isa::kind::Branch;
 pub fn slot(pc: u32) -> u32
     ensures { result ≡ Spec.slot_of pc }
 {
-    word::number::sum(pc, 4)
+    pc.wrapping_add(4)
 }
 
 #[tactic(auto, unfolding(crate::specs::Branch::link_of))]
 fn link(pc: u32) -> u32
     ensures { result ≡ Spec.link_of pc }
 {
-    word::number::sum(pc, 8)
+    pc.wrapping_add(8)
 }
 
 #[tactic(auto, unfolding(crate::specs::Branch::relative_of))]
 pub fn relative(pc: u32, offset: u32) -> u32
     ensures { result ≡ Spec.relative_of pc offset }
 {
-    word::number::sum(slot(pc), word::number::extend::<18>(offset % 65536 * 4))
+    slot(pc).wrapping_add(word::number::extend::<18>((offset & 0xFFFF) << 2))
 }
 
 #[tactic(auto, unfolding(crate::specs::Branch::region_of))]
 pub fn region(pc: u32, index: u32) -> u32
     ensures { result ≡ Spec.region_of pc index }
 {
-    slot(pc) / 268435456 * 268435456 + index % 67108864 * 4
+    ((slot(pc) >> 28) << 28) + ((index & 0x03FF_FFFF) << 2)
 }
 
 #[tactic(auto, unfolding(crate::specs::Branch::branch_if))]
@@ -59,26 +60,34 @@ fn link_if(t: bool, pc: u32, next: u32, offset: u32) -> Effect
     }
 }
 
-#[tactic(auto, unfolding(crate::specs::Branch::jump_if))]
-fn jump_if(target: u32, e: Effect) -> Effect
-    ensures { result ≡ Spec.jump_if target e }
+// The target of a jump, where it is word-aligned.
+fn aligned(target: u32) -> Result<u32, Exit>
+    ensures { result ≡ cond (eqb (target % 4) 0) (Ok target) (Err E.Address) }
 {
     if target % 4 == 0 {
-        e
+        Ok(target)
     } else {
-        Effect::Exit(Exit::Address)
+        Err(Exit::Address)
     }
 }
 
-#[tactic(auto, using(signed::proofs::Words::casts))]
-pub fn branch(k: Branch, rd: u32, a: u32, b: u32, v: u32, pc: u32, next: u32) -> Effect
+#[tactic(auto, using(signed::proofs::Words::casts), unfolding(crate::specs::Branch::jump_if))]
+pub fn branch(
+    k: Branch,
+    rd: u32,
+    a: u32,
+    b: u32,
+    v: u32,
+    pc: u32,
+    next: u32,
+) -> Result<Effect, Exit>
     ensures { result ≡ Spec.branch_of k rd a b v pc next }
 {
-    match k {
+    Ok(match k {
         Branch::J => Effect::Jump(region(pc, v)),
         Branch::Jal => Effect::Link(31, link(pc), region(pc, v)),
-        Branch::Jr => jump_if(a, Effect::Jump(a)),
-        Branch::Jalr => jump_if(a, Effect::Link(rd, link(pc), a)),
+        Branch::Jr => Effect::Jump(aligned(a)?),
+        Branch::Jalr => Effect::Link(rd, link(pc), aligned(a)?),
         Branch::Beq => branch_if(a == b, pc, v),
         Branch::Bne => branch_if(a != b, pc, v),
         Branch::Blez => branch_if(a.cast_signed() <= 0, pc, v),
@@ -87,5 +96,5 @@ pub fn branch(k: Branch, rd: u32, a: u32, b: u32, v: u32, pc: u32, next: u32) ->
         Branch::Bgez => branch_if(0 <= a.cast_signed(), pc, v),
         Branch::Bltzal => link_if(a.cast_signed() < 0, pc, next, v),
         Branch::Bgezal => link_if(0 <= a.cast_signed(), pc, next, v),
-    }
+    })
 }

@@ -7,23 +7,22 @@ use mathlib.Core.Logic.{⊎_elim}
 use native.Mathlib.Omega.{arith}
 use lib.Dec.{ltb}
 use lib.ListN.{length}
-use borrow.Author.Tests.{ne_eqb, lt-ltb, le-ltb}
-use Rattle.std.specs.Prelude.{Result, Ok, Err}
+use borrow.Author.Tests.{ne_eqb, ltb-true, lt-ltb, le-ltb}
+use Rattle.std.specs.Prelude.{Option, None, Result, Ok, Err}
 use Rattle.word.proofs.Choice.{by_zero}
 use Rattle.machine.specs.declared.state.State.{State}
 use Rattle.word.specs.Bytes.{longest}
 use Rattle.machine.specs.State.{refusal_of, Bytes}
 use Rattle.effect.specs.declared.effect.Touched.{Touched}
-use Rattle.effect.specs.declared.effect.Touched.TheVariants.{Nothing}
 use Rattle.effect.specs.Touched.{cell_of}
 use Rattle.refusal.specs.declared.Refusal.{Refusal}
 use Rattle.refusal.specs.declared.Refusal.TheVariants as R
-use Rattle.refusal.specs.Refusal.{number_of}
+use Rattle.refusal.specs.Refusal.{number_of, refused_when}
 use Rattle.refusal.proofs.Numbers.{number_some}
 use Rattle.machine.specs.Step.{Outcome, stepped, outcome, step_of}
 use Rattle.machine.specs.Run.{course, run_of}
 use Rattle.machine.specs.Resume.{resume_of}
-use Rattle.machine.proofs.Steps.{too_long, step_refused, exit_leaves}
+use Rattle.machine.proofs.Steps.{too_long, when_broken, step_refused, exit_leaves}
 use Rattle.machine.proofs.Touches.{touched_exits}
 use Rattle.machine.proofs.Runs.{run_refused, run_numbers}
 use Rattle.machine.proofs.Resumes.{resume_refused, resume_leaves}
@@ -52,9 +51,11 @@ module _ (b : List ℕ) where
     too_long_by true h = sym (too_long (state_of b) n h)
     too_long_by false h = rw (lt-ltb longest n h)
 
-    pub reads_too_long : longest < n → call_refusal b n ≡ 1
+    pub reads_too_long : (e : Refusal) → Err e ≡ refused_when R.MemoryTooLong (ltb longest n) → call_refusal b n ≡ number_of e
     unfolding call_refusal
-    reads_too_long h = too_long_by (is_state b) h
+    reads_too_long e h =
+        let w = when_broken R.MemoryTooLong e (ltb longest n) h in
+        too_long_by (is_state b) (ltb-true _ _ w.1) ∙ sym w.0
 
     pub reads_no_state : n ≤ longest → (e : Refusal) → decoded_of b ≡ Err e → call_refusal b n ≡ number_of e
     unfolding call_refusal
@@ -136,11 +137,11 @@ module _ (b m : List ℕ) where
       bytes : x ≡ bytes_of t
       bytes = (encode_bytes t b x k whole left).1
 
-      pub step_done_call : (o : ℕ) (u : Touched) (y : List ℕ) → stepped o u t y ≡ step_of s m → step_answer o (cell_of u) x y ≡ step_call b m
+      pub step_done_call : (o : ℕ) (u : Option Touched) (y : List ℕ) → stepped o u t y ≡ step_of s m → step_answer o (cell_of u) x y ≡ step_call b m
       unfolding call_of
       step_done_call o u y h = rw (read.0, ← read.1, ← h, bytes)
 
-      pub run_done_call : (o n : ℕ) (u : Touched) (y : List ℕ) (budget : ℕ) → course o n u t y ≡ run_of s m budget → run_answer o n (cell_of u) x y ≡ run_call b m budget
+      pub run_done_call : (o n : ℕ) (u : Option Touched) (y : List ℕ) (budget : ℕ) → course o n u t y ≡ run_of s m budget → run_answer o n (cell_of u) x y ≡ run_call b m budget
       unfolding run_call
       run_done_call o n u y budget h = rw (read.0, ← read.1, ← h, bytes)
 
@@ -197,16 +198,16 @@ module _ (b m : List ℕ) (g : Bytes b) where
 
   -- and carried no access
   abbrev Bare : Answer → Type 0
-  Bare r = (r.number ≡ 0 → ⊥) → r.touched ≡ cell_of Nothing
+  Bare r = (r.number ≡ 0 → ⊥) → r.touched ≡ cell_of None
 
-  pub step_call_bare : ((step_call b m).number ≡ 0 → ⊥) → (step_call b m).touched ≡ cell_of Nothing
+  pub step_call_bare : ((step_call b m).number ≡ 0 → ⊥) → (step_call b m).touched ≡ cell_of None
   unfolding call_of
   step_call_bare =
       by_zero Bare (call_refusal b (length m)) (λ _ n. ap cell_of (touched_exits (state_of b) m n)) (λ _ _. refl)
 
   -- a refused run, which its number tells, left both as they were, completed no step and carried no access
   abbrev Unrun : RunAnswer → Type 0
-  Unrun r = (r.number ≡ 0 → ⊥) → r.number < 40 → ((r.steps ≡ 0) × (r.touched ≡ cell_of Nothing)) × ((r.state ≡ b) × (r.memory ≡ m))
+  Unrun r = (r.number ≡ 0 → ⊥) → r.number < 40 → ((r.steps ≡ 0) × (r.touched ≡ cell_of None)) × ((r.state ≡ b) × (r.memory ≡ m))
 
   ran : Bytes m → (budget : ℕ) → call_refusal b (length m) ≡ 0 → Unrun (run_answered (run_of (state_of b) m budget))
   ran h budget z n l =
@@ -214,7 +215,7 @@ module _ (b m : List ℕ) (g : Bytes b) where
       let k = run_numbers (state_of b) m (state_typed b g) h budget (sym (same_refusal b m g e) ∙ z) in
       ⊎_elim (λ y. absurd (n y)) (λ y. absurd (omega (arith, y.0, l))) k
 
-  pub run_call_leaves : Bytes m → (budget : ℕ) → ((run_call b m budget).number ≡ 0 → ⊥) → (run_call b m budget).number < 40 → (((run_call b m budget).steps ≡ 0) × ((run_call b m budget).touched ≡ cell_of Nothing)) × (((run_call b m budget).state ≡ b) × ((run_call b m budget).memory ≡ m))
+  pub run_call_leaves : Bytes m → (budget : ℕ) → ((run_call b m budget).number ≡ 0 → ⊥) → (run_call b m budget).number < 40 → (((run_call b m budget).steps ≡ 0) × ((run_call b m budget).touched ≡ cell_of None)) × (((run_call b m budget).state ≡ b) × ((run_call b m budget).memory ≡ m))
   unfolding run_call
   run_call_leaves h budget =
       by_zero Unrun (call_refusal b (length m)) (ran h budget) (λ _ _ _. ((refl, refl), (refl, refl)))

@@ -1,7 +1,6 @@
 -- What cc100_step, cc100_run and cc100_resume answer and leave: what the machine does, on a state as bytes (document 01).
-use Rattle.std.specs.Prelude.{ℕ, ◌≡◌, cond, List, eqb, ltb, length, Result, Ok, Err}
+use Rattle.std.specs.Prelude.{ℕ, ◌≡◌, cond, List, eqb, ltb, length, None, Result, Ok, Err}
 use Rattle.word.specs.Bytes.{longest}
-use Rattle.effect.specs.declared.effect.Touched.TheVariants.{Nothing}
 use Rattle.effect.specs.declared.effect.Cell.{Cell}
 use Rattle.effect.specs.Exit.{exit_number}
 use Rattle.effect.specs.Touched.{cell, cell_of}
@@ -39,7 +38,7 @@ step_answer k t b m = record { number = k; touched = t; state = b; memory = m }
 
 -- a call that completes no step
 abbrev pub answer : ℕ → List ℕ → List ℕ → Answer
-answer k b m = step_answer k (cell_of Nothing) b m
+answer k b m = step_answer k (cell_of None) b m
 
 abbrev pub answered : Outcome → Answer
 answered o = step_answer o.number (cell_of o.touched) (bytes_of o.machine.state) o.machine.memory
@@ -85,12 +84,12 @@ unfoldable pub run_call : List ℕ → List ℕ → ℕ → RunAnswer
 run_call b m budget =
     cond (eqb (call_refusal b (length m)) 0)
     (run_answered (run_of (state_of b) m budget))
-    (run_answer (call_refusal b (length m)) 0 (cell_of Nothing) b m)
+    (run_answer (call_refusal b (length m)) 0 (cell_of None) b m)
 
 -- what a run of a state says, with the bytes that are left
 abbrev pub run_says : Result Ran Refusal → List ℕ → List ℕ → RunAnswer
 run_says (Ok r) b m = run_answer (exit_number r.exit) r.steps (cell_of r.touched) b m
-run_says (Err e) b m = run_answer (number_of e) 0 (cell_of Nothing) b m
+run_says (Err e) b m = run_answer (number_of e) 0 (cell_of None) b m
 
 -- struct cc100_ran of it
 abbrev pub IsRan : Result Ran Refusal → ℕ → ℕ → ℕ → ℕ → ℕ → Type 0

@@ -7,13 +7,11 @@ use machine::state::State;
 use refusal::Refusal;
 
 // The state that the bytes stand for, or the refusal that is due, memory's before the state's.
-#[tactic(auto, using(crate::proofs::Calls::reads_too_long, crate::proofs::Calls::reads_no_state, crate::proofs::Calls::reads_refused, crate::proofs::Calls::reads_state), unfolding(codec::specs::Bytes::decoded_of))]
+#[tactic(auto, using(crate::proofs::Calls::reads_no_state, crate::proofs::Calls::reads_refused, crate::proofs::Calls::reads_state), unfolding(codec::specs::Bytes::decoded_of))]
 pub fn read_state(bytes: &[u8], length: usize) -> Result<State, Refusal>
     ensures { Reads bytes.now length result }
 {
-    if word::bytes::LONGEST < length {
-        return Err(Refusal::MemoryTooLong);
-    }
+    Refusal::MemoryTooLong.when(word::bytes::LONGEST < length)?;
     let s = codec::decode::decode(bytes)?;
     s.refusal(length)?;
     Ok(s)

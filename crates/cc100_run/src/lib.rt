@@ -5,7 +5,7 @@ ghost use Rattle.std.specs.Prelude.{◌≡◌};
 ghost use Rattle.effect.specs.Touched.{cell};
 ghost use Rattle.cc100.specs.Calls as Spec;
 
-use effect::effect::{Cell, Touched};
+use effect::effect::Cell;
 use machine::run::Ran;
 use refusal::Refusal;
 
@@ -28,7 +28,7 @@ impl From<Result<Ran, Refusal>> for RanAnswer {
     fn from(r: Result<Ran, Refusal>) -> RanAnswer {
         let (number, steps, touched) = match r {
             Ok(s) => (effect::exit::number(s.exit), s.steps, s.touched),
-            Err(e) => (u32::from(e), 0, Touched::Nothing),
+            Err(e) => (u32::from(e), 0, None),
         };
         let cell = Cell::from(touched);
         RanAnswer {

@@ -5,7 +5,7 @@ ghost use Rattle.std.specs.Prelude.{◌≡◌};
 ghost use Rattle.effect.specs.Touched.{cell};
 ghost use Rattle.cc100.specs.Calls as Spec;
 
-use effect::effect::{Cell, Touched};
+use effect::effect::Cell;
 use machine::step::Stepped;
 use refusal::Refusal;
 
@@ -27,7 +27,7 @@ impl From<Result<Stepped, Refusal>> for SteppedAnswer {
     fn from(r: Result<Stepped, Refusal>) -> SteppedAnswer {
         let (number, touched) = match r {
             Ok(s) => (effect::exit::number(s.exit), s.touched),
-            Err(e) => (u32::from(e), Touched::Nothing),
+            Err(e) => (u32::from(e), None),
         };
         let cell = Cell::from(touched);
         SteppedAnswer {

@@ -1,17 +1,19 @@
 -- Refusals have numbers from 1 on; what `?` makes of one is the verdict of its number, at no place.
-use mathlib.Core.Path.{◌≡◌, ap, ◌∙◌}
-use mathlib.Core.Bool.{false≢true}
+use Prim.Native.Nat.{ℕ}
+use mathlib.Core.Path.{◌≡◌, refl, sym, ap}
+use mathlib.Core.Bool.{Bool, true, false, false≢true}
 use native.Mathlib.Omega.{arith}
-use borrow.Author.Tests.{ne_eqb}
 use Rattle.refusal.specs.declared.Refusal.{Refusal}
 use Rattle.refusal.specs.declared.Refusal.TheVariants.{MemoryTooLong, CodeSize, DataSize, CodePlace, DataPlace, Overlap, ImageLength, NoInstruction, Barred, WritesBase, LinkOverBase, DataGuard, CodeGuard, BranchAfterBranch, Target, NoLastJump, State, IllegalField, NotServed, NotForward, LastBundle}
-use Rattle.refusal.specs.Refusal.{number_of}
-use Rattle.std.specs.Prelude.{Result, Ok, Err, IsErr, IsErrAnd}
+use Rattle.refusal.specs.Refusal.{number_of, refused_number, refused_when}
+use Rattle.std.specs.Prelude.{Result, Ok, Err, IsErr}
 use Rattle.checker.specs.declared.verdict.Refused.{Refused}
-use Rattle.checker.specs.Check.{verdict, no_place}
-use Rattle.checker.specs.Scan.{whole_verdict}
-use Rattle.checker.specs.Said.{place_of, verdict_of, IsPlaceless}
+use Rattle.checker.specs.Check.{verdict}
+use Rattle.checker.specs.declared.verdict.Verdict.{Verdict}
+use Rattle.checker.specs.Scan.{verdict_at}
+use Rattle.checker.specs.Said.{verdict_of}
 use Rattle.rules.specs.Not.{Not}
+use Rattle.word.proofs.Choice.{by_zero}
 
 pub not_zero : (r : Refusal) → Not (number_of r ≡ 0)
 not_zero MemoryTooLong e = omega (arith, e)
@@ -36,9 +38,14 @@ not_zero NotServed e = omega (arith, e)
 not_zero NotForward e = omega (arith, e)
 not_zero LastBundle e = omega (arith, e)
 
-numbered : (r : Refusal) → verdict (number_of r) no_place ≡ whole_verdict (number_of r)
-numbered r = rw (ne_eqb (number_of r) 0 (not_zero r))
+-- a rule that refuses nothing is kept
+pub unbroken : (r : Refusal) (b : Bool) → Ok tt ≡ refused_when r b → b ≡ false
+unbroken r true e = absurd (not_zero r (sym (ap (λ (x : Result Unit Refusal). refused_number x) e)))
+unbroken r false e = refl
 
-pub placeless : {A : Type 0} (x : Result A Refused) (r : Refusal) → IsErr x → IsErrAnd x (IsPlaceless r) → verdict_of x ≡ whole_verdict (number_of r)
-placeless (Ok x) r p h = absurd (false≢true p)
-placeless (Err e) r p h = ap (λ (z : Refused). verdict (number_of z.rule) (place_of z.place)) h ∙ numbered r
+-- a refusal has a number
+pub told_at : {A : Type 0} (x : Result A Refused) (k p : ℕ) → IsErr x → verdict_of x ≡ verdict_at k p → (Not (k ≡ 0)) × (verdict_of x ≡ verdict k p)
+told_at (Ok x) k p h e = absurd (false≢true h)
+told_at {A} (Err r) k p h e =
+    by_zero (λ (v : Verdict). verdict_of {A = A} (Err r) ≡ v → Not (k ≡ 0) × (verdict_of {A = A} (Err r) ≡ verdict k p)) k
+    (λ z q. absurd (not_zero r.rule (ap (λ (v : Verdict). v.number) q))) (λ z q. (z, q)) e

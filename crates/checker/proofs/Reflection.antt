@@ -8,7 +8,7 @@ use lib.Dec.{T, eqb, leb, ltb}
 use lib.IntN.{ℤ, pos, negsuc}
 use lib.ListN.{length}
 use lib.Pow.{pow_mono}
-use Rattle.std.specs.Prelude.{Option, None}
+use Rattle.std.specs.Prelude.{Option, Some, None, is_some}
 use Rattle.word.specs.Bytes.{longest, load_of}
 use Rattle.isa.specs.declared.kind.Alu.TheVariants.{Or}
 use Rattle.isa.specs.declared.kind.Immediate.TheVariants.{Andi}
@@ -17,9 +17,11 @@ use Rattle.isa.specs.declared.kind.System.TheVariants.{Break, Rfe, Mfc0, Mtc0}
 use Rattle.isa.specs.declared.kind.Kind.{Kind}
 use Rattle.isa.specs.declared.kind.Kind.TheVariants as K
 use Rattle.isa.specs.declared.kind.Instruction.{Instruction}
+use Rattle.class.specs.declared.Width.{Width}
+use Rattle.class.specs.declared.Width.TheVariants.{Byte, Half, Word}
 use Rattle.class.specs.declared.Flow.{Flow}
 use Rattle.class.specs.declared.Flow.TheVariants.{Onward, Relative, Region, Register}
-use Rattle.class.specs.Class.{class_of}
+use Rattle.class.specs.Class.{bytes_of, class_of}
 use Rattle.isa.specs.Table.{instructions}
 use Rattle.isa.specs.Reading.{read_of}
 use Rattle.isa.proofs.Codes.{key_of, every}
@@ -36,7 +38,7 @@ use Rattle.rules.specs.Rules as C
 use Rattle.checker.specs.Check.{is_word_broken, is_file_broken, is_broken}
 use Rattle.checker.specs.Lawful as L
 use Rattle.rules.specs.Not.{Not}
-use Rattle.checker.specs.Lawful.{Stands, width_of, flow_of}
+use Rattle.checker.specs.Lawful.{Stands, flow_of}
 use Rattle.checker.specs.Refusal.{FileRule, WordRule, Keeps}
 use Rattle.checker.proofs.Says.{Says, holds, fails, Denies, keeps, eqs, les, lts, ands, ors, nots, imps, both, lacks, bars, spares, picks, saying, denying, every_reading, some_reading}
 
@@ -148,6 +150,12 @@ registers Relative = fails (other is_register refl refl)
 registers Region = fails (other is_register refl refl)
 registers Register = holds refl
 
+accesses : (w : Option Width) → Says (Not (bytes_of w ≡ 0)) (is_some w)
+accesses None = fails (λ h. h refl)
+accesses (Some Byte) = holds (λ e. omega (arith, e))
+accesses (Some Half) = holds (λ e. omega (arith, e))
+accesses (Some Word) = holds (λ e. omega (arith, e))
+
 module _ (x : Instruction) where
   branches : Says (L.Branches x) (is_branch (seen x))
   unfolding seen
@@ -161,7 +169,7 @@ module _ (x : Instruction) where
 
   needs_guard_law : Says (L.NeedsGuard x) (needs_guard (seen x))
   unfolding seen
-  needs_guard_law = ors (nots (eqs (width_of x) 0)) (registers (flow_of x))
+  needs_guard_law = ors (accesses (class_of x.kind).width) (registers (flow_of x))
 
 -- ---- words
 
@@ -291,7 +299,7 @@ module _ (l : Layout) (img : List ℕ) (i : ℕ) where
   unfolding seen C.broken12
   rule12 =
       every_word img i _ (C.broken12 l.data_size img i)
-      (λ x. imps (nots (eqs _ _)) (lacks (guards img i 26 x.rs _ _ (λ m. fits_data_law _ m _ _))))
+      (λ x. imps (accesses (class_of x.kind).width) (lacks (guards img i 26 x.rs _ _ (λ m. fits_data_law _ m _ _))))
 
   rule13 : Denies (L.Rule13 l img i) (passes (C.broken13 l.code_size img i) (C.view_at img i))
   unfolding seen C.broken13

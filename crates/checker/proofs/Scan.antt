@@ -8,24 +8,24 @@ use native.Mathlib.Omega.{arith}
 use native.Mathlib.Numerals.{add-one}
 use lib.Dec.{eqb}
 use lib.ListN.{length, take, drop}
-use borrow.Author.Tests.{le-leb, lt-leb, ne_eqb, eqb-true, eqb-false, not-true}
+use borrow.Author.Tests.{le-leb, lt-leb, ne_eqb, eqb-true, eqb-false, not-true, not-false}
 use Rattle.layout.specs.declared.Layout.{Layout}
 use Rattle.layout.specs.Layout.{layout_refusal, broken1, broken2, broken3, broken4, broken5, broken6}
 use Rattle.layout.proofs.Kept.{refusal_most, kept}
 use Rattle.view.specs.declared.View.{View}
-use Rattle.std.specs.Prelude.{Option, Some, None}
+use Rattle.std.specs.Prelude.{Option, Some, None, Result, Ok, is_some}
 use Rattle.view.specs.View.{word_view, passes, is_relative, is_region, is_branch, is_jump, is_base, is_plain}
 use Rattle.quick.specs.Plain.{PlainWord}
 use Rattle.refusal.specs.declared.Refusal.{Refusal}
-use Rattle.refusal.specs.Refusal.{number_of}
+use Rattle.refusal.specs.Refusal.{number_of, refused_number, refused_when}
 use Rattle.word.proofs.Choice.{both, by_test, by_zero}
 use Rattle.checker.specs.declared.verdict.Verdict.{Verdict}
 use Rattle.rules.specs.Rules.{Sized, word_at, view_at, view_before, broken10, broken11, broken12, broken13, broken14, broken15}
-use Rattle.checker.specs.Scan.{file_refusal, word_refusal, number_of_branch, number_of_word, number_at, first_word, whole_verdict, end_verdict, words_verdict, words_by}
+use Rattle.checker.specs.Scan.{file_refusal, word_refusal, number_of_branch, number_of_word, SaysBranch, number_at, first_word, end_verdict, words_verdict, image_verdict, words_by}
 use Rattle.checker.specs.Check.{verdict, no_place, trials_at, trials_after, in_turn, trials_by, is_word_broken, is_file_broken, broken_by, first_of, check_of, code_of, placed_of}
 use Rattle.checker.specs.Refusal.{All}
 use Rattle.rules.specs.Not.{Not}
-use Rattle.checker.proofs.Numbers.{not_zero}
+use Rattle.checker.proofs.Numbers.{not_zero, unbroken}
 use Rattle.checker.proofs.Trials.{implied, of_words}
 
 -- ---- the word before
@@ -35,9 +35,12 @@ module _ (img : List ℕ) where
   unfolding view_before
   none_before = refl
 
-  pub one_before : (i : ℕ) → view_at img i ≡ view_before img (i + 1)
+  one_before : (i : ℕ) → view_at img i ≡ view_before img (i + 1)
   unfolding view_before
   one_before i = let z : i + 1 - 1 ≡ i = omega arith in rw (le-leb 1 (i + 1) (omega arith), z)
+
+  pub handed_on : (i : ℕ) {r : Result Bool Refusal} {b : Bool} → r ≡ Ok b → SaysBranch r (view_at img i) → b ≡ passes is_branch (view_before img (i + 1))
+  handed_on i e h = subst (λ (x : Result Bool Refusal). SaysBranch x (view_at img i)) e h ∙ ap (passes is_branch) (one_before i)
 
 -- ---- a ladder of trials, and the first number that it gives
 
@@ -65,8 +68,8 @@ module _ (number : ℕ → ℕ) (end : Verdict) (i n : ℕ) where
     more : first_word number end (n - i) i ≡ cond (eqb (number i) 0) (first_word number end (n - (i + 1)) (i + 1)) (verdict (number i) i)
     more = let z : n - i ≡ suc (n - (i + 1)) = omega arith in rw (z, add-one i)
 
-    pub scan_stop : (r : Refusal) → number_of r ≡ number i → verdict (number_of r) i ≡ first_word number end (n - i) i
-    scan_stop r e = sym (more ∙ (rw (← e, ne_eqb (number_of r) 0 (not_zero r))))
+    pub scan_stop : {k : ℕ} → Not (k ≡ 0) → k ≡ number i → verdict k i ≡ first_word number end (n - i) i
+    scan_stop {k} z e = sym (more ∙ (rw (← e, ne_eqb k 0 z)))
 
     pub scan_go : 0 ≡ number i → first_word number end (n - (i + 1)) (i + 1) ≡ first_word number end (n - i) i
     scan_go e = sym (more ∙ (rw (← e)))
@@ -85,24 +88,22 @@ module _ (b : Layout → ℕ → View → ℕ) (w : Layout → List ℕ → ℕ)
 
   module _ (i : ℕ) (e : length img ≡ l.code_size) where
     module _ (h : i < length img / 4) {after : Bool} (q : after ≡ passes is_branch (view_before img i)) where
-      pub stopped : (r : Refusal) → number_of r ≡ number_of_word b l img i after (view_at img i) → verdict (number_of r) i ≡ rest i
-      stopped r f = scan_stop (number_at b l img) _ i (l.code_size / 4) (omega (arith, h, e)) r (f ∙ ap (λ (a : Bool). number_of_word b l img i a (view_at img i)) q)
+      pub stopped : {k : ℕ} → Not (k ≡ 0) → k ≡ number_of_word b l img i after (view_at img i) → verdict k i ≡ rest i
+      stopped z f = scan_stop (number_at b l img) _ i (l.code_size / 4) (omega (arith, h, e)) z (f ∙ ap (λ (a : Bool). number_of_word b l img i a (view_at img i)) q)
 
-      pub gone : 0 ≡ number_of_word b l img i after (view_at img i) → rest (i + 1) ≡ rest i
-      gone f = scan_go (number_at b l img) _ i (l.code_size / 4) (omega (arith, h, e)) (f ∙ ap (λ (a : Bool). number_of_word b l img i a (view_at img i)) q)
+      pub gone : {r : Result Bool Refusal} {x : Bool} → r ≡ Ok x → refused_number r ≡ number_of_word b l img i after (view_at img i) → rest (i + 1) ≡ rest i
+      gone p f =
+          let z = ap (λ (r : Result Bool Refusal). refused_number r) (sym p) ∙ f in
+          scan_go (number_at b l img) _ i (l.code_size / 4) (omega (arith, h, e)) (z ∙ ap (λ (a : Bool). number_of_word b l img i a (view_at img i)) q)
 
-    module _ (h : length img / 4 ≤ i) {x : ℕ} {j : Bool} (p : x ≡ word_at img (length img / 4 - 2)) (q : j ≡ passes is_jump (word_view x)) where
-      ended : cond (not j) (verdict 16 (length img / 4 - 2)) (whole_verdict (w l img)) ≡ rest i
-      unfolding view_at
-      ended =
-          let n : length img / 4 ≡ l.code_size / 4 = ap (λ (k : ℕ). k / 4) e in
-          rw (q, p, n) (scan_end (number_at b l img) _ i (l.code_size / 4) (omega (arith, h, n)))
+    pub ended : length img / 4 ≤ i → end_verdict w l img (length img / 4) ≡ rest i
+    ended h =
+        let n : length img / 4 ≡ l.code_size / 4 = ap (λ (k : ℕ). k / 4) e in
+        rw n (scan_end (number_at b l img) _ i (l.code_size / 4) (omega (arith, h, n)))
 
-      pub no_last_jump : j ≡ false → verdict 16 (length img / 4 - 2) ≡ rest i
-      no_last_jump z = rw z at ended
-
-      pub whole : j ≡ true → {k : ℕ} → k ≡ w l img → whole_verdict k ≡ rest i
-      whole z f = rw f (rw z at ended)
+pub is_last_jump : (img : List ℕ) (i : ℕ) {x : ℕ} {j : Bool} → x ≡ word_at img i → j ≡ passes is_jump (word_view x) → j ≡ passes is_jump (view_at img i)
+unfolding view_at
+is_last_jump img i p q = q ∙ ap (λ (k : ℕ). passes is_jump (word_view k)) p
 
 -- ---- the numbers of words are those of their trials
 
@@ -181,7 +182,7 @@ plain_none (Some v) h =
     let b = both (not v.barred) _ h in
     let c = both (not (is_base v.written)) _ b.1 in
     let d = both (not v.link) _ c.1 in
-    let f = both (eqb v.width 0) _ d.1 in
+    let f = both (not (is_some v.width)) _ d.1 in
     sym (not-true (is_branch v) f.1)
 
 module _ (of_branch : Layout → ℕ → View → ℕ) (l : Layout) (img : List ℕ) (i : ℕ) (after : Bool) where
@@ -192,10 +193,10 @@ module _ (of_branch : Layout → ℕ → View → ℕ) (l : Layout) (img : List 
       let b = both (not v.barred) _ h in
       let c = both (not (is_base v.written)) _ b.1 in
       let d = both (not v.link) _ c.1 in
-      let f = both (eqb v.width 0) _ d.1 in
+      let f = both (not (is_some v.width)) _ d.1 in
       let g = neither (is_relative v.flow) _ (not-true (is_branch v) f.1) in
       let j = neither (is_region v.flow) _ g.1 in
-      rw (not-true v.barred b.0, not-true (is_base v.written) c.0, not-true v.link d.0, f.0, g.0, j.0, j.1)
+      rw (not-true v.barred b.0, not-true (is_base v.written) c.0, not-true v.link d.0, not-true (is_some v.width) f.0, g.0, j.0, j.1)
 
 module _ (l : Layout) (img : List ℕ) (i : ℕ) {w : ℕ} (e : w ≡ word_at img i) where
   pub view_is : {v : Option View} → v ≡ word_view w → v ≡ view_at img i
@@ -263,11 +264,30 @@ module _ (word : ℕ → ℕ → Bool) (at after : ℕ → List Verdict) (l : La
         → v ≡ first_of (broken_by word l len img) (trials_by at after l)
     words_tried z h q = q ∙ sym (file_first ∙ (rw (← e, z) (words_same (in_turn at after (l.code_size / 4) 0) h)))
 
+  -- so the code's verdict on layout, image and words is that of the trials, where that on the words is
+  pub image_tried : All OfWords (in_turn at after (l.code_size / 4) 0) → (b : Layout → ℕ → View → ℕ) (w : Layout → List ℕ → ℕ)
+      → words_verdict b w l img ≡ words_by word at after (l.code_size / 4) 0
+      → image_verdict b w l len img ≡ first_of (broken_by word l len img) (trials_by at after l)
+  unfolding image_verdict
+  image_tried h b w q =
+      ap (λ (v : Verdict). given (λ (k : ℕ). verdict k no_place) v (file_refusal l len img))
+      (q ∙ sym (words_same (in_turn at after (l.code_size / 4) 0) h))
+      ∙ sym file_first
+
 -- what 1 to 7 leave to the words
 cleared : (k : ℕ) (z e : Bool) → eqb k 0 ≡ z → cond z (cond e 0 7) k ≡ 0 → (k ≡ 0) × (e ≡ true)
 cleared k true true h q = (eqb-true k 0 h, refl)
 cleared k true false h q = absurd (omega (arith, q))
 cleared k false e h q = absurd (eqb-false k 0 h q)
+
+module _ (l : Layout) (len : ℕ) (img : List ℕ) (z : 0 ≡ layout_refusal l len) where
+  sized_by : length img ≡ l.code_size → Sized l img
+  sized_by e =
+      let k = kept l len (sym z) in
+      record { length_is = e; least = k.least; words = omega (arith, k.size); aligned = omega (arith, k.base); inside = omega (arith, k.inside, k.within) }
+
+  pub sized_when : (r : Refusal) (k : ℕ) → k ≡ l.code_size → Ok tt ≡ refused_when r (not (eqb (length img) k)) → Sized l img
+  sized_when r k q e = sized_by (eqb-true (length img) k (not-false _ (unbroken r _ e)) ∙ q)
 
 module _ (l : Layout) (len : ℕ) (img : List ℕ) (e : 0 ≡ file_refusal l len img) where
   left : (layout_refusal l len ≡ 0) × (eqb (length img) l.code_size ≡ true)
@@ -275,15 +295,7 @@ module _ (l : Layout) (len : ℕ) (img : List ℕ) (e : 0 ≡ file_refusal l len
   left = cleared (layout_refusal l len) _ _ refl (sym e)
 
   pub sized : Sized l img
-  sized =
-      let k = kept l len left.0 in
-      record {
-        length_is = eqb-true (length img) l.code_size left.1;
-        least = k.least;
-        words = omega (arith, k.size);
-        aligned = omega (arith, k.base);
-        inside = omega (arith, k.inside, k.within);
-      }
+  sized = sized_by l len img (sym left.0) (eqb-true (length img) l.code_size left.1)
 
 -- what holds of the numbers that the file can be refused by holds of the one that it is
 module _ (P : ℕ → Type 0) (l : Layout) (len : ℕ) (img : List ℕ) where
@@ -300,17 +312,14 @@ pub all_of_words : (n i : ℕ) → All OfWords (in_turn trials_at trials_after n
 all_of_words n i = of_words OfWords trials_at trials_after n i (λ j _ _. omega arith, omega arith)
 
 module _ (l : Layout) (len : ℕ) (img : List ℕ) where
-  pub check_refused : (r : Refusal) → number_of r ≡ file_refusal l len img → verdict (number_of r) no_place ≡ check_of l len img
+  pub basic_image : image_verdict (λ _ _ _. 0) (λ _ _. 0) l len img ≡ check_of l len img
   unfolding check_of
-  check_refused r e = file_refused (is_word_broken l img) trials_at trials_after l len img e (not_zero r)
-
-  pub check_tried : (v : Verdict) → 0 ≡ file_refusal l len img → v ≡ words_verdict (λ _ _ _. 0) (λ _ _. 0) l img → v ≡ check_of l len img
-  unfolding check_of
-  check_tried v e q = words_tried (is_word_broken l img) trials_at trials_after l len img e refl (all_of_words (l.code_size / 4) 0) (q ∙ basic_words l img)
+  basic_image = image_tried (is_word_broken l img) trials_at trials_after l len img (all_of_words (l.code_size / 4) 0) _ _ (basic_words l img)
 
   pub layout_refused : (r : Refusal) → number_of r ≡ layout_refusal l len → verdict (number_of r) no_place ≡ check_of l len img
-  unfolding file_refusal
-  layout_refused r e = check_refused r (rw (← e, ne_eqb (number_of r) 0 (not_zero r)))
+  unfolding file_refusal check_of
+  layout_refused r e =
+      file_refused (is_word_broken l img) trials_at trials_after l len img (rw (← e, ne_eqb (number_of r) 0 (not_zero r))) (not_zero r)
 
 -- ---- the code area of a memory
 

@@ -6,12 +6,9 @@ use Rattle.checker.specs.declared.verdict.Refused.{Refused}
 use Rattle.checker.specs.declared.verdict.Verdict.{Verdict}
 use Rattle.checker.specs.Check.{verdict, no_place, accepted}
 
-abbrev pub refused : Refusal → Option ℕ → Refused
-refused r p = record { rule = r; place = p }
-
 -- a rule of layout and image, which is broken at no word
 abbrev pub IsPlaceless : Refusal → Refused → Type 0
-IsPlaceless r x = x ≡ refused r None
+IsPlaceless r x = (x.rule ≡ r) × (x.place ≡ None)
 
 abbrev pub place_of : Option ℕ → ℕ
 place_of (Some i) = i

@@ -48,16 +48,23 @@ abbrev pub first_word : (ℕ → ℕ) → Verdict → ℕ → ℕ → Verdict
 first_word number end zero i = end
 first_word number end (suc n) i = cond (eqb (number i) 0) (first_word number end n (suc i)) (verdict (number i) i)
 
-abbrev pub whole_verdict : ℕ → Verdict
-whole_verdict k = cond (eqb k 0) accepted (verdict k no_place)
+-- of number k at place p; 0 says nothing
+abbrev pub verdict_at : ℕ → ℕ → Verdict
+verdict_at k p = cond (eqb k 0) accepted (verdict k p)
 
 -- after n words
 abbrev pub end_verdict : (Layout → List ℕ → ℕ) → Layout → List ℕ → ℕ → Verdict
-end_verdict of_whole l img n = cond (not (passes is_jump (view_at img (n - 2)))) (verdict 16 (n - 2)) (whole_verdict (of_whole l img))
+end_verdict of_whole l img n = cond (not (passes is_jump (view_at img (n - 2)))) (verdict 16 (n - 2)) (verdict_at (of_whole l img) no_place)
 
+-- by the loop, for any profile; `basic_words` and `straight_words` of the two proofs/Scan tie it to the trials of the two that there are
 unfoldable pub words_verdict : (Layout → ℕ → View → ℕ) → (Layout → List ℕ → ℕ) → Layout → List ℕ → Verdict
 words_verdict of_branch of_whole l img =
     first_word (number_at of_branch l img) (end_verdict of_whole l img (l.code_size / 4)) (l.code_size / 4) 0
+
+-- layout and image, then the words
+unfoldable pub image_verdict : (Layout → ℕ → View → ℕ) → (Layout → List ℕ → ℕ) → Layout → ℕ → List ℕ → Verdict
+image_verdict of_branch of_whole l len img =
+    cond (eqb (file_refusal l len img) 0) (words_verdict of_branch of_whole l img) (verdict (file_refusal l len img) no_place)
 
 -- the verdict on n words from word i on, by trials
 abbrev pub words_by : (ℕ → ℕ → Bool) → (ℕ → List Verdict) → (ℕ → List Verdict) → ℕ → ℕ → Verdict

@@ -1,13 +1,17 @@
 // What the checker says of a module, and the same for C.
-ghost use Rattle.std.specs.Prelude.{◌≡◌};
+ghost use Rattle.std.specs.Prelude.{◌≡◌, ◌<◌};
+ghost use Rattle.std.specs.Option.{ForSome};
+ghost use Rattle.checker.specs.Check.{no_place};
 
 use refusal::Refusal;
 
-// The rule that is broken, and the index of the word where it is; no place where the rule is of layout and image.
+// The rule that is broken, and the index of the word where it is; no place where the rule is of layout and image. No index is the number that
+// stands for no place, so that the verdict tells the two apart.
 #[derive(Clone, Copy)]
 pub struct Refused {
     pub rule: Refusal,
     pub place: Option<u32>,
+    pub ghost index: { ForSome place (λ i. i < no_place) },
 }
 
 impl From<Refusal> for Refused {
@@ -20,7 +24,7 @@ impl From<Refusal> for Refused {
     }
 }
 
-// struct cc100_verdict: 0, or the rule's number.
+// struct cc100_verdict: 0, or the rule's number. C has no Option: what has no place has NO_PLACE.
 #[repr(C)]
 #[derive(Clone, Copy)]
 pub struct Verdict {

@@ -1,9 +1,10 @@
 // The words of an image in their order, each tried with 8 to 15.
-ghost use Rattle.std.specs.Prelude.{◌≡◌, ℕ, List, Some};
+ghost use Rattle.std.specs.Prelude.{◌≡◌, ◌<◌, ◌/◌, ℕ, IfOk, List, Ok, Some, length};
 ghost use Rattle.layout.specs.declared.Layout.{Layout};
 ghost use Rattle.refusal.specs.Refusal.{refused_number};
 ghost use Rattle.rules.specs.Rules.{view_at};
 ghost use Rattle.view.specs.declared.View.{View};
+ghost use Rattle.checker.specs.Check.{no_place};
 ghost use Rattle.checker.specs.Said.{verdict_of};
 ghost use Rattle.checker.specs.Scan as Spec;
 
@@ -54,28 +55,13 @@ pub fn check_word(site: Site, after: bool, v: View) -> Result<(), Refusal>
 {
     let word = site.word();
     let layout = site.whole.layout;
-    if v.barred {
-        return Err(Refusal::Barred);
-    }
-    if single::breaks10(v) {
-        return Err(Refusal::WritesBase);
-    }
-    if single::breaks11(v) {
-        return Err(Refusal::LinkOverBase);
-    }
-    if guard::breaks12(layout.data_size, word, v) {
-        return Err(Refusal::DataGuard);
-    }
-    if guard::breaks13(layout.code_size, word, v) {
-        return Err(Refusal::CodeGuard);
-    }
-    if single::breaks14(after, v) {
-        return Err(Refusal::BranchAfterBranch);
-    }
-    if landing::breaks15(site, v) {
-        return Err(Refusal::Target);
-    }
-    Ok(())
+    Refusal::Barred.when(v.barred)?;
+    Refusal::WritesBase.when(single::breaks10(v))?;
+    Refusal::LinkOverBase.when(single::breaks11(v))?;
+    Refusal::DataGuard.when(guard::breaks12(layout.data_size, word, v))?;
+    Refusal::CodeGuard.when(guard::breaks13(layout.code_size, word, v))?;
+    Refusal::BranchAfterBranch.when(single::breaks14(after, v))?;
+    Refusal::Target.when(landing::breaks15(site, v))
 }
 
 // Whether the word is a branch or jump, where it breaks no rule. A plain word breaks none of 8 to 15 and is no branch: it need not be read.
@@ -99,29 +85,40 @@ fn try_word<P: Profile>(site: Site, after: bool) -> Result<bool, Refusal>
     Ok(branch)
 }
 
-// The words from index 0, each with 8 to 15; then 16.
+// What is said of word i has its index for place.
+fn at_word<A>(i: usize, said: Result<A, Refusal>) -> Result<A, Refused>
+    requires { i < no_place }
+    ensures verdict { verdict_of result ≡ Spec.verdict_at (refused_number said) i }
+    ensures passed { IfOk result (λ x. said ≡ Ok x) }
+{
+    match said {
+        Ok(x) => Ok(x),
+        Err(rule) => Err(Refused {
+            rule,
+            place: Some(i as u32),
+        }),
+    }
+}
+
+// After the words: 16, and what the profile says of the whole.
+#[tactic(auto, using(crate::proofs::Scan::is_last_jump, crate::proofs::Numbers::told_at))]
+fn check_end<P: Profile>(whole: Module) -> Result<(), Refused>
+    ensures { verdict_of result ≡ Spec.end_verdict P.of_whole whole.entry.layout whole.entry.image.now (length whole.entry.image.now / 4) }
+{
+    let i = whole.image.len() / 4 - 2;
+    let jump = is_jump(word_at(whole.image, i));
+    at_word(i, Refusal::NoLastJump.when(!jump))?;
+    Ok(P::check_whole(whole)?)
+}
+
+// The words from index 0, each with 8 to 15; then 16. By index, since the guard of a word is in the two before it.
 pub fn check_words<P: Profile>(whole: Module) -> Result<(), Refused>
     ensures { verdict_of result ≡ Spec.words_verdict P.of_branch P.of_whole whole.entry.layout whole.entry.image.now }
 {
     let n = whole.image.len() / 4;
     let mut after = false;
     for i in 0..n {
-        match try_word::<P>(Site { whole, index: i }, after) {
-            Ok(branch) => after = branch,
-            Err(rule) => {
-                return Err(Refused {
-                    rule,
-                    place: Some(i as u32),
-                });
-            }
-        }
+        after = at_word(i, try_word::<P>(Site { whole, index: i }, after))?;
     }
-    if !is_jump(word_at(whole.image, n - 2)) {
-        return Err(Refused {
-            rule: Refusal::NoLastJump,
-            place: Some((n - 2) as u32),
-        });
-    }
-    P::check_whole(whole)?;
-    Ok(())
+    check_end::<P>(whole)
 }

@@ -1,5 +1,5 @@
 -- The one classification of instructions for machine and checker: accesses, flow of control, and the register written.
-use Rattle.std.specs.Prelude.{ℕ, Bool, true, false}
+use Rattle.std.specs.Prelude.{ℕ, ◌≡◌, Bool, true, false, Option, Some, None}
 use Rattle.isa.specs.declared.kind.Multiply.{Multiply}
 use Rattle.isa.specs.declared.kind.Multiply.TheVariants.{Mult, Multu, Div, Divu, Mfhi, Mthi, Mflo, Mtlo}
 use Rattle.isa.specs.declared.kind.Access.{Access}
@@ -11,32 +11,51 @@ use Rattle.isa.specs.declared.kind.System.TheVariants.{Syscall, Break, Rfe, Mfc0
 use Rattle.isa.specs.declared.kind.Kind.{Kind}
 use Rattle.isa.specs.declared.kind.Kind.TheVariants as K
 use Rattle.isa.specs.declared.kind.Instruction.{Instruction}
+use Rattle.class.specs.declared.Width.{Width}
+use Rattle.class.specs.declared.Width.TheVariants.{Byte, Half, Word}
 use Rattle.class.specs.declared.Flow.{Flow}
 use Rattle.class.specs.declared.Flow.TheVariants.{Onward, Relative, Region, Register}
 use Rattle.class.specs.declared.Destination.{Destination}
 use Rattle.class.specs.declared.Destination.TheVariants.{Nowhere, FieldRt, FieldRd, Return}
 use Rattle.class.specs.declared.Class.{Class}
 
-abbrev pub classed : ℕ → Bool → Flow → Bool → Destination → Class
+-- ---- the width of an access, in bytes (document 01, Module and its guards)
+
+abbrev pub bytes_in : Width → ℕ
+bytes_in Byte = 1
+bytes_in Half = 2
+bytes_in Word = 4
+
+abbrev pub IsBytesOf : Width → ℕ → Type 0
+IsBytesOf w n = n ≡ bytes_in w
+
+-- 0 of what is no access
+abbrev pub bytes_of : Option Width → ℕ
+bytes_of (Some w) = bytes_in w
+bytes_of None = 0
+
+-- ---- classes
+
+abbrev pub classed : Option Width → Bool → Flow → Bool → Destination → Class
 classed w s f l d = record { width = w; store = s; flow = f; link = l; destination = d }
 
 -- neither an access nor a branch
 abbrev pub plain : Destination → Class
-plain d = classed 0 false Onward false d
+plain d = classed None false Onward false d
 
--- an access of w bytes (document 01, Module and its guards)
-abbrev pub loads : ℕ → Class
-loads w = classed w false Onward false FieldRt
+-- an access
+abbrev pub loads : Width → Class
+loads w = classed (Some w) false Onward false FieldRt
 
-abbrev pub stores : ℕ → Destination → Class
-stores w d = classed w true Onward false d
+abbrev pub stores : Width → Destination → Class
+stores w d = classed (Some w) true Onward false d
 
 -- a branch or jump, and one that leaves a link
 abbrev pub branches : Flow → Class
-branches f = classed 0 false f false Nowhere
+branches f = classed None false f false Nowhere
 
 abbrev pub links : Flow → Destination → Class
-links f d = classed 0 false f true d
+links f d = classed None false f true d
 
 abbrev pub multiply_class : Multiply → Class
 multiply_class Mult = plain Nowhere
@@ -49,16 +68,16 @@ multiply_class Mflo = plain FieldRd
 multiply_class Mtlo = plain Nowhere
 
 abbrev pub access_class : Access → Class
-access_class Lb = loads 1
-access_class Lbu = loads 1
-access_class Sb = stores 1 Nowhere
-access_class Lh = loads 2
-access_class Lhu = loads 2
-access_class Sh = stores 2 Nowhere
-access_class Lw = loads 4
-access_class Sw = stores 4 Nowhere
-access_class Ll = loads 4
-access_class Sc = stores 4 FieldRt
+access_class Lb = loads Byte
+access_class Lbu = loads Byte
+access_class Sb = stores Byte Nowhere
+access_class Lh = loads Half
+access_class Lhu = loads Half
+access_class Sh = stores Half Nowhere
+access_class Lw = loads Word
+access_class Sw = stores Word Nowhere
+access_class Ll = loads Word
+access_class Sc = stores Word FieldRt
 
 abbrev pub branch_class : Branch → Class
 branch_class J = branches Region

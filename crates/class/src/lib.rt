@@ -6,6 +6,24 @@ ghost use Rattle.class.specs.Class as C;
 
 use isa::kind::{Access, Branch, Instruction, Kind, Multiply, System};
 
+// How much an access loads or stores, in bytes.
+#[derive(Clone, Copy)]
+pub enum Width {
+    Byte = 1,
+    Half = 2,
+    Word = 4,
+}
+
+impl From<Width> for u32 {
+    ghost use Rattle.class.specs.Class.{IsBytesOf};
+
+    ghost from_gives = { IsBytesOf };
+
+    fn from(w: Width) -> u32 {
+        w as u32
+    }
+}
+
 // Where control goes after the slot.
 #[derive(Clone, Copy, PartialEq, Eq)]
 pub enum Flow {
@@ -31,8 +49,8 @@ pub enum Destination {
 
 #[derive(Clone, Copy)]
 pub struct Class {
-    // Bytes loaded or stored; 0: not an access. A number and no Option, which is no plainer: the rules add it up as it is.
-    pub width: u32,
+    // None: not an access.
+    pub width: Option<Width>,
     pub store: bool,
     pub flow: Flow,
     pub link: bool,
@@ -43,7 +61,7 @@ fn plain(destination: Destination) -> Class
     ensures { result ≡ C.plain destination }
 {
     Class {
-        width: 0,
+        width: None,
         store: false,
         flow: Flow::Onward,
         link: false,
@@ -51,20 +69,20 @@ fn plain(destination: Destination) -> Class
     }
 }
 
-fn loads(width: u32) -> Class
+fn loads(width: Width) -> Class
     ensures { result ≡ C.loads width }
 {
     Class {
-        width,
+        width: Some(width),
         ..plain(Destination::FieldRt)
     }
 }
 
-fn stores(width: u32, destination: Destination) -> Class
+fn stores(width: Width, destination: Destination) -> Class
     ensures { result ≡ C.stores width destination }
 {
     Class {
-        width,
+        width: Some(width),
         store: true,
         ..plain(destination)
     }
@@ -107,13 +125,13 @@ fn access_class(k: Access) -> Class
     ensures { result ≡ C.access_class k }
 {
     match k {
-        Access::Lb | Access::Lbu => loads(1),
-        Access::Lh | Access::Lhu => loads(2),
-        Access::Lw | Access::Ll => loads(4),
-        Access::Sb => stores(1, Destination::Nowhere),
-        Access::Sh => stores(2, Destination::Nowhere),
-        Access::Sw => stores(4, Destination::Nowhere),
-        Access::Sc => stores(4, Destination::FieldRt),
+        Access::Lb | Access::Lbu => loads(Width::Byte),
+        Access::Lh | Access::Lhu => loads(Width::Half),
+        Access::Lw | Access::Ll => loads(Width::Word),
+        Access::Sb => stores(Width::Byte, Destination::Nowhere),
+        Access::Sh => stores(Width::Half, Destination::Nowhere),
+        Access::Sw => stores(Width::Word, Destination::Nowhere),
+        Access::Sc => stores(Width::Word, Destination::FieldRt),
     }
 }
 
@@ -142,6 +160,7 @@ fn system_class(k: System) -> Class
     }
 }
 
+// A match by hand: it is the classification itself, beside that of the definition.
 pub fn class_of(k: Kind) -> Class
     ensures { result ≡ C.class_of k }
 {

@@ -2,21 +2,22 @@
 use Prim.Native.Nat.{ℕ, ◌+◌, ◌^◌, ◌<◌, ◌≤◌}
 use mathlib.Core.Path.{◌≡◌, refl, sym, ap, ◌∙◌}
 use mathlib.Core.Bool.{Bool, true, false}
-use mathlib.Core.List.{List, ◌++◌, append_assoc}
+use mathlib.Core.List.{List, ◌++◌}
 use native.Mathlib.Omega.{arith}
 use lib.Dec.{eqb, ltb}
 use lib.ListN.{length, get_or, take, length-append, get_or-append}
 use lib.Seq.{take_all, take_at, get_or-append-add}
 use borrow.Author.Tests.{eqb-true, eqb-false, ne_eqb, ltb-true, lt-ltb, le-ltb}
 use Rattle.std.specs.Prelude.{Ok, Err}
-use Rattle.word.specs.Bytes.{load_of}
+use Rattle.word.specs.Bytes.{load_of, words_at}
+use Rattle.word.proofs.Words.{words_length, words_append}
 use Rattle.word.proofs.Choice.{both}
 use Rattle.refusal.specs.declared.Refusal.TheVariants as R
 use Rattle.machine.specs.declared.state.State.{State}
 use Rattle.machine.specs.State.{Typed, Bytes}
-use Rattle.codec.specs.Bytes.{flat_of, bit_of, others_of, words_of, bytes_of, word_at, words_at, state_of, is_state, decoded_of, encoded, encoded_of}
+use Rattle.codec.specs.Bytes.{flat_of, bit_of, others_of, words_of, bytes_of, word_at, state_of, is_state, decoded_of, encoded, encoded_of}
 use Rattle.codec.specs.Stores.{stores_of}
-use Rattle.codec.proofs.Words.{flat_length, flat_bytes, flat_words, word_flat, word_below, words_length, words_same, words_below, stores_append, stores_whole}
+use Rattle.codec.proofs.Words.{flat_length, flat_bytes, flat_words, word_flat, word_below, words_same, words_below, stores_append, stores_whole}
 
 -- ---- a state, to bytes and back
 
@@ -63,8 +64,8 @@ state_bytes s t =
     let at = other_at s t.count in
     let w = t.special in
     let h : bit_of s.special.ll < 2 = bit_below s.special.ll in
-    let r : words_at 32 (bytes_of s) ≡ s.registers =
-    words_same 32 (bytes_of s) (words_of s) (omega (arith, words_count s t.count)) (λ k l. register_at s t.count k l (t.registers k))
+    let r : words_at 32 (bytes_of s) 0 ≡ s.registers =
+    words_same 32 (bytes_of s) (words_of s) 0 (omega (arith, words_count s t.count)) (λ k l. (let z : 0 + k ≡ k = omega arith in rw z (register_at s t.count k l (t.registers k))))
     ∙ take_at s.registers (others_of s.special) 32 t.count in
     rw (r, at 0 w.hi, at 1 w.lo, at 2 w.pc, at 3 w.next_pc, at 4 (omega arith), bit_back s.special.ll, at 5 w.bad, at 6 w.status, at 7 w.cause, at 8 w.epc)
 
@@ -86,8 +87,8 @@ pub state_typed : (b : List ℕ) → Bytes b → Typed (state_of b)
 unfolding state_of
 state_typed b g =
     record {
-      count = words_length 32 b;
-      registers = words_below b g 32;
+      count = words_length 32 b 0;
+      registers = words_below b g 32 0;
       special =
           record {
             hi = word_below b g 32;
@@ -124,10 +125,10 @@ module _ (b : List ℕ) where
   decode_length n = rw (ne_eqb (length b) 164 n)
 
 pub bytes_state : (b : List ℕ) → Bytes b → is_state b ≡ true → bytes_of (state_of b) ≡ b
-unfolding is_state bytes_of words_of state_of words_at
+unfolding is_state bytes_of words_of state_of words_at word_at
 bytes_state b g e =
     let n : length b ≡ 164 = state_length b e in
     let l : word_at b 36 < 2 = ltb-true _ _ (both (eqb (length b) 164) (ltb (word_at b 36) 2) e).1 in
-    let w : flat_of (words_at 41 b) ≡ take 164 b = flat_words b g 41 (omega arith) in
+    let w : flat_of (words_at 41 b 0) ≡ take 164 b = flat_words b g 41 0 (omega arith) in
     let k : bit_of (eqb (word_at b 36) 1) ≡ word_at b 36 = bit_same (word_at b 36) _ refl l in
-    ap flat_of (rw k (simp append_assoc)) ∙ w ∙ take_all 164 b (omega arith)
+    ap flat_of (rw k (sym (words_append 32 9 b 0))) ∙ w ∙ take_all 164 b (omega arith)

@@ -7,9 +7,9 @@ use native.Mathlib.Numerals.{add-one}
 use native.Mathlib.Omega.{arith}
 use lib.ListN.{length, get_or, set, take, drop, length-append, length-set, drop_of_length-le}
 use lib.Seq.{take_all, take-suc, take-suc-set, drop-cons, get_or-append-add}
-use Rattle.word.specs.Bytes.{load_of, store_of}
+use Rattle.word.specs.Bytes.{load_of, store_of, words_at}
 use Rattle.word.proofs.Memory.{store_length, load_lt}
-use Rattle.codec.specs.Bytes.{little_of, flat_of, word_at, words_at}
+use Rattle.codec.specs.Bytes.{little_of, flat_of, word_at}
 use Rattle.codec.specs.Stores.{stores_of}
 
 -- what holds of every element of two lists holds of every one of both together
@@ -93,40 +93,37 @@ word_flat (w ∷ ws) (suc k) h =
     let e : 4 * suc k ≡ length (little_of 4 w) + 4 * k = omega (arith, little_length 4 w) in
     rw (e, load_append 4 (little_of 4 w) (flat_of ws) (4 * k)) (word_flat ws k h)
 
-pub words_length : (n : ℕ) (b : List ℕ) → length (words_at n b) ≡ n
-unfolding words_at
-words_length zero b = refl
-words_length (suc n) b = rw (length-append (words_at n b) (word_at b n ∷ []), words_length n b) (omega arith)
-
--- the first words, where each is known
-pub words_same : (n : ℕ) (b ws : List ℕ) → n ≤ length ws → ((k : ℕ) → k < n → word_at b k ≡ get_or ws k 0) → words_at n b ≡ take n ws
-unfolding words_at
-words_same zero b ws h e = refl
-words_same (suc n) b ws h e =
-    rw (take-suc ws n 0 (omega arith), words_same n b ws (omega arith) (λ k l. e k (omega arith)), e n (omega arith))
+-- the words from place j on, where each is known
+pub words_same : (n : ℕ) (b ws : List ℕ) (j : ℕ) → n ≤ length ws → ((k : ℕ) → k < n → word_at b (j + k) ≡ get_or ws k 0) → words_at n b (4 * j) ≡ take n ws
+unfolding words_at word_at
+words_same zero b ws j h e = refl
+words_same (suc n) b [] j h e = absurd (omega (arith, h))
+words_same (suc n) b (w ∷ ws) j h e =
+    let z : j + 0 ≡ j = omega arith in
+    let s : 4 * j + 4 ≡ 4 * (j + 1) = omega arith in
+    let more : (k : ℕ) → k < n → word_at b (j + 1 + k) ≡ get_or ws k 0 = λ k l. (let p : j + 1 + k ≡ j + suc k = omega arith in rw p (e (suc k) (omega arith))) in
+    let first : load_of 4 b (4 * j) ≡ w = rw z at (e 0 (omega arith)) in
+    rw (first, s, words_same n b ws (j + 1) (omega (arith, h)) more)
 
 module _ (b : List ℕ) (g : (i : ℕ) → get_or b i 0 < 2 ^ 8) where
   pub word_below : (k : ℕ) → word_at b k < 2 ^ 32
   unfolding word_at
   word_below k = load_lt 4 b (4 * k) g
 
-  single_below : (k i : ℕ) → get_or (word_at b k ∷ []) i 0 < 2 ^ 32
-  single_below k zero = word_below k
-  single_below k (suc i) = omega arith
-
-  pub words_below : (n i : ℕ) → get_or (words_at n b) i 0 < 2 ^ 32
+  pub words_below : (n a i : ℕ) → get_or (words_at n b a) i 0 < 2 ^ 32
   unfolding words_at
-  words_below zero i = omega arith
-  words_below (suc n) i = append_every (λ x. x < 2 ^ 32) (words_at n b) (word_at b n ∷ []) (words_below n) (single_below n) i
+  words_below zero a i = omega arith
+  words_below (suc n) a zero = load_lt 4 b a g
+  words_below (suc n) a (suc i) = words_below n (a + 4) i
 
   -- the words of bytes give the bytes back
-  pub flat_words : (n : ℕ) → 4 * n ≤ length b → flat_of (words_at n b) ≡ take (4 * n) b
-  unfolding words_at flat_of word_at
-  flat_words zero h = refl
-  flat_words (suc n) h =
-      let e : 4 * suc n ≡ 4 * n + 4 = omega arith in
-      let w : ℕ = word_at b n in
-      rw (flat_append (words_at n b) (w ∷ []), flat_words n (omega arith), append-nil (little_of 4 w), e) (little_load 4 b (4 * n) (omega arith) g)
+  pub flat_words : (n a : ℕ) → a + 4 * n ≤ length b → take a b ++ flat_of (words_at n b a) ≡ take (a + 4 * n) b
+  unfolding words_at flat_of
+  flat_words zero a h = rw add-zero (append-nil (take a b))
+  flat_words (suc n) a h =
+      let e : a + 4 * suc n ≡ a + 4 + 4 * n = omega arith in
+      let w : ℕ = load_of 4 b a in
+      rw (← append_assoc (take a b) (little_of 4 w) (flat_of (words_at n b (a + 4))), little_load 4 b a (omega arith) g, e) (flat_words n (a + 4) (omega arith))
 
 -- ---- words stored
 
@@ -154,17 +151,13 @@ pub stores_whole : (ws b : List ℕ) → 4 * length ws ≡ length b → stores_o
 stores_whole ws b e =
     sym (take_all (0 + 4 * length ws) (stores_of b 0 ws) (omega (arith, stores_length ws b 0))) ∙ take_stores ws b 0 (omega arith)
 
--- ---- one turn of the two loops
+-- ---- one turn of the loop
 
-pub words_more : (b r : List ℕ) (k : ℕ) → k < length r → take k r ≡ words_at k b → take (k + 1) (set r k (load_of 4 b (4 * k))) ≡ words_at (k + 1) b
-unfolding words_at word_at
-words_more b r k h e = rw (add-one k, take-suc-set r k (load_of 4 b (4 * k)) h, e)
-
-pub stores_more : (b ws t : List ℕ) (k : ℕ) → k < length ws → stores_of b (4 * k) (drop k ws) ≡ t → stores_of (store_of 4 b (4 * k) (get_or ws k 0)) (4 * (k + 1)) (drop (k + 1) ws) ≡ t
+pub stores_more : (b ws t : List ℕ) (k a : ℕ) → k < length ws → stores_of b (a + 4 * k) (drop k ws) ≡ t → stores_of (store_of 4 b (a + 4 * k) (get_or ws k 0)) (a + 4 * (k + 1)) (drop (k + 1) ws) ≡ t
 unfolding stores_of
-stores_more b ws t k h e =
-    let a : 4 * (k + 1) ≡ 4 * k + 4 = omega arith in
-    rw (a, add-one k) (rw (drop-cons ws k 0 h) at e)
+stores_more b ws t k a h e =
+    let n : a + 4 * (k + 1) ≡ a + 4 * k + 4 = omega arith in
+    rw (n, add-one k) (rw (drop-cons ws k 0 h) at e)
 
 pub stores_end : (b ws : List ℕ) (a k : ℕ) → length ws ≤ k → b ≡ stores_of b a (drop k ws)
 unfolding stores_of

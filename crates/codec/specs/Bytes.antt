@@ -1,6 +1,6 @@
 -- A state as 164 bytes, 41 little-endian words, and what of bytes refusal 17 refuses (document 01, Machine and Refusal table).
 use Rattle.std.specs.Prelude.{ℕ, zero, suc, ◌*◌, ◌/◌, ◌%◌, Bool, cond, ◌&&◌, List, [], ◌∷◌, ◌++◌, eqb, ltb, length, Result, Ok, Err}
-use Rattle.word.specs.Bytes.{load_of}
+use Rattle.word.specs.Bytes.{load_of, words_at}
 use Rattle.refusal.specs.declared.Refusal.{Refusal}
 use Rattle.refusal.specs.declared.Refusal.TheVariants as R
 use Rattle.effect.specs.declared.effect.Special.{Special}
@@ -40,15 +40,10 @@ bytes_of s = flat_of (words_of s)
 unfoldable pub word_at : List ℕ → ℕ → ℕ
 word_at b k = load_of 4 b (4 * k)
 
--- the first n words of bytes
-unfoldable pub words_at : ℕ → List ℕ → List ℕ
-words_at zero b = []
-words_at (suc n) b = words_at n b ++ (word_at b n ∷ [])
-
 unfoldable pub state_of : List ℕ → State
 state_of b =
     record {
-      registers = words_at 32 b;
+      registers = words_at 32 b 0;
       special =
           record {
             hi = word_at b 32;

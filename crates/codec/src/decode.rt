@@ -6,45 +6,32 @@ use crate::LENGTH;
 use effect::effect::Special;
 use machine::state::State;
 use refusal::Refusal;
-use word::bytes::load;
-
-fn registers_of(bytes: &[u8; LENGTH]) -> [u32; 32]
-    ensures { result ≡ Spec.words_at 32 bytes.now }
-{
-    let mut registers = [0; 32];
-    for k in 0..32usize {
-        registers[k] = load::<4>(bytes, 4 * k);
-    }
-    registers
-}
-
-#[tactic(auto, unfolding(crate::specs::Bytes::state_of, crate::specs::Bytes::word_at))]
-fn state_of(bytes: &[u8; LENGTH]) -> State
-    ensures { result ≡ Spec.state_of bytes.now }
-{
-    State {
-        registers: registers_of(bytes),
-        special: Special {
-            hi: load::<4>(bytes, 128),
-            lo: load::<4>(bytes, 132),
-            pc: load::<4>(bytes, 136),
-            next_pc: load::<4>(bytes, 140),
-            ll: load::<4>(bytes, 144) == 1,
-            bad: load::<4>(bytes, 148),
-            status: load::<4>(bytes, 152),
-            cause: load::<4>(bytes, 156),
-            epc: load::<4>(bytes, 160),
-        },
-    }
-}
+use word::bytes::words;
 
 // 17's rules of bytes: their number, and an LL word of at most 1.
-#[tactic(auto, using(crate::proofs::RoundTrip::decode_done, crate::proofs::RoundTrip::decode_refused, crate::proofs::RoundTrip::decode_length))]
+#[tactic(auto, using(crate::proofs::RoundTrip::decode_done, crate::proofs::RoundTrip::decode_refused, crate::proofs::RoundTrip::decode_length), unfolding(crate::specs::Bytes::state_of, crate::specs::Bytes::word_at, word::specs::Bytes::words_at))]
 pub fn decode(bytes: &[u8]) -> Result<State, Refusal>
     ensures { result ≡ Spec.decoded_of bytes.now }
 {
-    match <&[u8; LENGTH]>::try_from(bytes) {
-        Ok(words) if load::<4>(words, 144) < 2 => Ok(state_of(words)),
-        _ => Err(Refusal::State),
+    let Ok(bytes) = <&[u8; LENGTH]>::try_from(bytes) else {
+        return Err(Refusal::State);
+    };
+    let [hi, lo, pc, next_pc, ll, bad, status, cause, epc] = words::<9>(bytes, 128);
+    if ll > 1 {
+        return Err(Refusal::State);
     }
+    Ok(State {
+        registers: words::<32>(bytes, 0),
+        special: Special {
+            hi,
+            lo,
+            pc,
+            next_pc,
+            ll: ll == 1,
+            bad,
+            status,
+            cause,
+            epc,
+        },
+    })
 }

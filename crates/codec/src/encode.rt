@@ -1,49 +1,41 @@
 // A state to its bytes.
-ghost use Rattle.std.specs.Prelude.{◌≡◌, length};
+ghost use Rattle.std.specs.Prelude.{◌≡◌, ◌+◌, ◌*◌, ◌≤◌};
 ghost use Rattle.refusal.specs.Refusal.{refused_number};
 ghost use Rattle.codec.specs.Bytes as Spec;
 ghost use Rattle.codec.specs.Stores.{stores_of};
 
-use effect::effect::Special;
+use crate::LENGTH;
 use machine::state::State;
 use refusal::Refusal;
 use word::bytes::store;
 
-// Says of the registers, too, what their type says.
-fn put_registers(registers: [u32; 32], bytes: &mut [u8])
-    requires { length bytes.old ≡ 164 }
-    ensures { (length registers ≡ 32) × (bytes.new ≡ stores_of bytes.old 0 registers) }
+// From byte `at` on.
+fn put<const N: usize>(words: [u32; N], bytes: &mut [u8; LENGTH], at: usize)
+    requires { at + 4 * N ≤ 164 }
+    ensures { bytes.new ≡ stores_of bytes.old at words.entry }
 {
-    for k in 0..32usize {
-        store::<4>(bytes, 4 * k, registers[k]);
+    for k in 0..N {
+        store::<4>(bytes, at + 4 * k, words[k]);
     }
-}
-
-#[tactic(auto, unfolding(crate::specs::Stores::stores_of))]
-fn put_others(c: Special, bytes: &mut [u8])
-    requires { length bytes.old ≡ 164 }
-    ensures { bytes.new ≡ stores_of bytes.old 128 (Spec.others_of c) }
-{
-    store::<4>(bytes, 128, c.hi);
-    store::<4>(bytes, 132, c.lo);
-    store::<4>(bytes, 136, c.pc);
-    store::<4>(bytes, 140, c.next_pc);
-    store::<4>(bytes, 144, u32::from(c.ll));
-    store::<4>(bytes, 148, c.bad);
-    store::<4>(bytes, 152, c.status);
-    store::<4>(bytes, 156, c.cause);
-    store::<4>(bytes, 160, c.epc);
 }
 
 // A refusal leaves the bytes as they were.
-#[tactic(auto, using(crate::proofs::RoundTrip::encode_done), unfolding(crate::specs::Bytes::encoded_of))]
+#[tactic(auto, unfolding(crate::specs::Bytes::encoded_of))]
 pub fn encode(s: State, bytes: &mut [u8]) -> Result<(), Refusal>
     ensures { Spec.encoded (refused_number result) bytes.new ≡ Spec.encoded_of s bytes.old }
 {
-    if bytes.len() != crate::LENGTH {
+    let Some(bytes) = bytes.as_mut_array::<LENGTH>() else {
         return Err(Refusal::State);
-    }
-    put_registers(s.registers, bytes);
-    put_others(s.special, bytes);
+    };
+    let c = s.special;
+    let ll = u32::from(c.ll);
+    put::<32>(s.registers, bytes, 0);
+    put::<9>(
+        [
+            c.hi, c.lo, c.pc, c.next_pc, ll, c.bad, c.status, c.cause, c.epc,
+        ],
+        bytes,
+        128,
+    );
     Ok(())
 }

@@ -1,16 +1,16 @@
 -- The two areas of a lawful module, and what a guard makes of a register: a displacement in its area.
 use Prim.Native.Nat.{ℕ, ◌+◌, ◌%◌, ◌^◌, ◌≤◌, ◌<◌}
 use mathlib.Core.Path.{◌≡◌, refl, ◌∙◌, subst}
-use mathlib.Core.Bool.{Bool, true, false, ◌||◌}
 use mathlib.Core.List.{List}
 use native.Mathlib.Nat.{mod_self}
 use native.Mathlib.Omega.{arith}
-use lib.Dec.{T, eqb, eqb→eq}
 use lib.Bits.{bit_and, bit_or, or_comm, and_le_r}
+use Rattle.std.specs.Prelude.{Option, Some, None}
 use Rattle.word.proofs.Bits.{mask_multiple, or_sum}
 use Rattle.isa.specs.declared.kind.Instruction.{Instruction}
-use Rattle.class.specs.Class.{class_of}
-use Rattle.isa.proofs.Codes.{every_kind}
+use Rattle.class.specs.declared.Width.{Width}
+use Rattle.class.specs.declared.Width.TheVariants.{Byte, Half, Word}
+use Rattle.class.specs.Class.{bytes_of, class_of}
 use Rattle.layout.specs.declared.Layout.{Layout}
 use Rattle.layout.proofs.Sizes.{divides}
 use Rattle.rules.specs.Offset.{offset_of}
@@ -46,51 +46,31 @@ Fits l Code x d = FitsCode l.code_size d
 
 -- ---- widths
 
-pub data Width : ℕ → Type 0 where
-  w1 : Width 1
-  w2 : Width 2
-  w4 : Width 4
+mask_width : (x : Option Width) → Not (bytes_of x ≡ 0) → (v m : ℕ) → m % bytes_of x ≡ 0 → bit_and v m % bytes_of x ≡ 0
+mask_width None u v m h = absurd (u refl)
+mask_width (Some Byte) u v m h = mask_multiple 0 v m h
+mask_width (Some Half) u v m h = mask_multiple 1 v m h
+mask_width (Some Word) u v m h = mask_multiple 2 v m h
 
-width_of_law : (n : ℕ) → T (eqb n 0 || (eqb n 1 || (eqb n 2 || eqb n 4))) → Not (n ≡ 0) → Width n
-width_of_law n t h = by (eqb n 0) refl (eqb n 1) refl (eqb n 2) refl t
-  where
-    by : (a : Bool) → eqb n 0 ≡ a → (b : Bool) → eqb n 1 ≡ b → (c : Bool) → eqb n 2 ≡ c → T (a || (b || (c || eqb n 4))) → Width n
-    by true p b q c r t = absurd (h (eqb→eq n 0 (rw p tt)))
-    by false p true q c r t = let e : n ≡ 1 = eqb→eq n 1 (rw q tt) in rw e w1
-    by false p false q true r t = let e : n ≡ 2 = eqb→eq n 2 (rw r tt) in rw e w2
-    by false p false q false r t = let e : n ≡ 4 = eqb→eq n 4 t in rw e w4
-
-pub width_is : (x : Instruction) → Accesses x → Width (width_of x)
-width_is x h =
-    width_of_law (width_of x) (every_kind (λ k. eqb (class_of k).width 0 || (eqb (class_of k).width 1 || (eqb (class_of k).width 2 || eqb (class_of k).width 4))) tt x.kind) h
-
-mask_width : {w : ℕ} → Width w → (v m : ℕ) → m % w ≡ 0 → bit_and v m % w ≡ 0
-mask_width w1 v m h = mask_multiple 0 v m h
-mask_width w2 v m h = mask_multiple 1 v m h
-mask_width w4 v m h = mask_multiple 2 v m h
-
-pub sum_width : {w : ℕ} → Width w → (b d o : ℕ) → b % 4 ≡ 0 → d % w ≡ 0 → o % w ≡ 0 → (b + d + o) % w ≡ 0
-sum_width w1 b d o p q r = omega arith
-sum_width w2 b d o p q r = omega arith
-sum_width w4 b d o p q r = omega arith
-
-pub width_positive : {w : ℕ} → Width w → 0 < w
-width_positive w1 = omega arith
-width_positive w2 = omega arith
-width_positive w4 = omega arith
+pub sum_width : (x : Option Width) → Not (bytes_of x ≡ 0) → (b d o : ℕ) → b % 4 ≡ 0 → d % bytes_of x ≡ 0 → o % bytes_of x ≡ 0
+    → (b + d + o) % bytes_of x ≡ 0
+sum_width None u b d o p q r = absurd (u refl)
+sum_width (Some Byte) u b d o p q r = omega arith
+sum_width (Some Half) u b d o p q r = omega arith
+sum_width (Some Word) u b d o p q r = omega arith
 
 -- ---- displacements
 
 pub fits_mask : (l : Layout) (a : Area) (x : Instruction) → Uses a x → (v m : ℕ) → Fits l a x m → Fits l a x (bit_and v m)
 fits_mask l Data x u v m (o, (z, (p, (q, r)))) =
     let h : bit_and v m ≤ m = and_le_r v m in
-    (o, (z, (mask_width (width_is x u) v m p, (q, omega arith))))
+    (o, (z, (mask_width (class_of x.kind).width u v m p, (q, omega arith))))
 fits_mask l Code x u v m (p, q) =
     let h : bit_and v m ≤ m = and_le_r v m in
     (mask_multiple 4 v m p, omega arith)
 
 pub fits_below : (l : Layout) (a : Area) (x : Instruction) → Uses a x → (d : ℕ) → Fits l a x d → d < size_of l a
-fits_below l Data x u d (o, (z, (p, (q, r)))) = omega (arith, r, width_positive (width_is x u))
+fits_below l Data x u d (o, (z, (p, (q, r)))) = omega (arith, r, u)
 fits_below l Code x u d (p, q) = omega (arith, q)
 
 -- ---- the areas of a lawful module

@@ -7,6 +7,8 @@ use lib.IntN.{ℤ}
 use native.Mathlib.Omega.{arith}
 use lib.Dec.{T, eqb, ltb, ltb→lt}
 use borrow.Author.Tests.{eqb-true, not-true}
+use Rattle.std.specs.Prelude.{Result, Ok, Err}
+use Rattle.std.specs.Result.{MatchResult}
 use Rattle.word.specs.Number.{fits_of}
 use Rattle.word.proofs.Choice.{by_test, both}
 use Rattle.isa.specs.declared.kind.Alu.{Alu}
@@ -30,11 +32,11 @@ use Rattle.isa.specs.declared.kind.Kind.TheVariants as K
 use Rattle.isa.specs.declared.kind.Instruction.{Instruction}
 use Rattle.class.specs.declared.Flow.{Flow}
 use Rattle.class.specs.declared.Flow.TheVariants.{Onward, Relative, Region, Register}
-use Rattle.class.specs.Class.{class_of, named}
+use Rattle.class.specs.Class.{bytes_of, class_of, named}
 use Rattle.effect.specs.declared.effect.Special.{Special}
 use Rattle.effect.specs.declared.effect.Effect.{Effect}
-use Rattle.effect.specs.declared.effect.Effect.TheVariants.{Exit, Advance, Write, Pair, Jump, Link, LoadByte, LoadHalf, LoadWord, LoadLinked, StoreByte, StoreHalf, StoreWord, StoreLinked, Control, Return}
-use Rattle.effect.specs.declared.exit.Exit as X
+use Rattle.effect.specs.declared.effect.Effect.TheVariants.{Advance, Write, Pair, Jump, Link, LoadByte, LoadHalf, LoadWord, LoadLinked, StoreByte, StoreHalf, StoreWord, StoreLinked, Control, Return}
+use Rattle.effect.specs.declared.exit.Exit.{Exit}
 use Rattle.effect.specs.declared.exit.Exit.TheVariants as E
 use Rattle.effect.specs.Exit.{number_of}
 use Rattle.arithmetic.specs.Arithmetic.{alu_of, immediate_of, shift_of, multiply_of, checked, product, divided}
@@ -59,7 +61,7 @@ Leads Register i a c t = t ≡ a
 -- neither an access nor a branch, nor a word of a guard
 pub record Idle (k : Kind) : Type 0 where
   pub onward : (class_of k).flow ≡ Onward
-  pub no_access : (class_of k).width ≡ 0
+  pub no_access : bytes_of (class_of k).width ≡ 0
   pub no_mask : is_mask k ≡ false
   pub no_merge : is_merge k ≡ false
 
@@ -72,7 +74,7 @@ Unbarred k v =
 -- why it exits by number e
 pub data Leaves (k : Kind) (i : Instruction) (a : ℕ) (c : Special) (n e : ℕ) : Type 0 where
   allowed : Allowed e → Idle k → Leaves k i a c n e
-  unreached : Not ((class_of k).width ≡ 0) → reaches (class_of k).width (address_of a i.value) n ≡ false → Leaves k i a c n e
+  unreached : Not (bytes_of (class_of k).width ≡ 0) → reaches (bytes_of (class_of k).width) (address_of a i.value) n ≡ false → Leaves k i a c n e
   unaligned : (class_of k).flow ≡ Register → eqb (a % 4) 0 ≡ false → Leaves k i a c n e
   barred : Not (Unbarred k i.value) → Leaves k i a c n e
   kernel : is_user c.status ≡ false → Leaves k i a c n e
@@ -90,7 +92,6 @@ module _ (k : Kind) (i : Instruction) (a : ℕ) (c : Special) (n : ℕ) where
   Puts r = r ≡ named (class_of k).destination i
 
   abbrev pub Follows : Effect → Type 0
-  Follows (Exit e) = Leaves k i a c n (number_of e)
   Follows Advance = On
   Follows (Write r v) = Puts r × On
   Follows (Pair h l) = On
@@ -107,8 +108,8 @@ module _ (k : Kind) (i : Instruction) (a : ℕ) (c : Special) (n : ℕ) where
   Follows (Control r v) = is_user c.status ≡ false
   Follows (Return s) = is_user c.status ≡ false
 
-  pub record Obeys (e : Effect) : Type 0 where
-    pub follows : Follows e
+  pub record Obeys (d : Result Effect Exit) : Type 0 where
+    pub follows : MatchResult d Follows (λ x. Leaves k i a c n (number_of x))
 
 -- ---- effects of each form
 
@@ -117,52 +118,62 @@ wide : (n w : ℕ) → n ≡ w → T (ltb 0 w) → Not (n ≡ 0)
 wide n w q t e = omega (arith, e, q, ltb→lt 0 w t)
 
 module _ {k : Kind} {i : Instruction} {a : ℕ} {c : Special} {n : ℕ} where
-  does : {e : Effect} → Follows k i a c n e → Obeys k i a c n e
+  does : {e : Effect} → Follows k i a c n e → Obeys k i a c n (Ok e)
   does f = record { follows = f }
 
-  either : (t : Bool) {x y : Effect} → (t ≡ true → Obeys k i a c n x) → (t ≡ false → Obeys k i a c n y) → Obeys k i a c n (cond t x y)
+  exits : {x : Exit} → Leaves k i a c n (number_of x) → Obeys k i a c n (Err x)
+  exits f = record { follows = f }
+
+  either : (t : Bool) {x y : Result Effect Exit} → (t ≡ true → Obeys k i a c n x) → (t ≡ false → Obeys k i a c n y) → Obeys k i a c n (cond t x y)
   either t p q = by_test (Obeys k i a c n) t p q
+
+  -- one of two effects, of two exits
+  one_of : (t : Bool) {x y : Effect} → Obeys k i a c n (Ok x) → Obeys k i a c n (Ok y) → Obeys k i a c n (Ok (cond t x y))
+  one_of t p q = by_test (λ e. Obeys k i a c n (Ok e)) t (λ _. p) (λ _. q)
+
+  exits_by : (t : Bool) {x y : Exit} → (t ≡ true → Obeys k i a c n (Err x)) → (t ≡ false → Obeys k i a c n (Err y)) → Obeys k i a c n (Err (cond t x y))
+  exits_by t p q = by_test (λ x. Obeys k i a c n (Err x)) t p q
 
   checks : (r : ℕ) (z : ℤ) → Puts k i a c n r → On k i a c n → Idle k → Obeys k i a c n (checked r z)
   unfolding checked
-  checks r z p o h = either (fits_of 32 z) (λ _. does (p, o)) (λ _. does (allowed (inl refl) h))
+  checks r z p o h = either (fits_of 32 z) (λ _. does (p, o)) (λ _. exits (allowed (inl refl) h))
 
-  multiplies : (p : ℕ) → On k i a c n → Obeys k i a c n (product p)
+  multiplies : (p : ℕ) → On k i a c n → Obeys k i a c n (Ok (product p))
   unfolding product
   multiplies p o = does o
 
-  divides : (d q r : ℕ) → On k i a c n → Obeys k i a c n (divided d q r)
+  divides : (d q r : ℕ) → On k i a c n → Obeys k i a c n (Ok (divided d q r))
   unfolding divided
-  divides d q r o = either (eqb d 0) (λ _. does o) (λ _. does o)
+  divides d q r o = one_of (eqb d 0) (does o) (does o)
 
   traps : (t : Bool) → On k i a c n → Idle k → Obeys k i a c n (trap_if t)
   unfolding trap_if
-  traps t o h = either t (λ _. does (allowed (inr (inr (inr refl))) h)) (λ _. does o)
+  traps t o h = either t (λ _. exits (allowed (inr (inr (inr refl))) h)) (λ _. does o)
 
-  jumps : {e : Effect} → (class_of k).flow ≡ Register → Obeys k i a c n e → Obeys k i a c n (jump_if a e)
+  jumps : {e : Effect} → (class_of k).flow ≡ Register → Obeys k i a c n (Ok e) → Obeys k i a c n (jump_if a e)
   unfolding jump_if
-  jumps r f = either (eqb (a % 4) 0) (λ _. f) (λ q. does (unaligned r q))
+  jumps r f = either (eqb (a % 4) 0) (λ _. f) (λ q. exits (unaligned r q))
 
-  privileges : (e : X.Exit) {x : Effect} → Not (Unbarred k i.value) → (is_user c.status ≡ false → Obeys k i a c n x) → Obeys k i a c n (privileged c.status e x)
+  privileges : (x : Exit) {e : Effect} → Not (Unbarred k i.value) → (is_user c.status ≡ false → Obeys k i a c n (Ok e)) → Obeys k i a c n (privileged c.status x e)
   unfolding privileged
-  privileges e u f = either (is_user c.status) (λ _. does (barred u)) f
+  privileges x u f = either (is_user c.status) (λ _. exits (barred u)) f
 
-  misses : (w : ℕ) (e : X.Exit) → (class_of k).width ≡ w → T (ltb 0 w) → reaches w (address_of a i.value) n ≡ false → Obeys k i a c n (Exit e)
-  misses w e q t z =
-      let u : reaches (class_of k).width (address_of a i.value) n ≡ false = rw q z in
-      does (unreached (wide _ w q t) u)
+  misses : (w : ℕ) (x : Exit) → bytes_of (class_of k).width ≡ w → T (ltb 0 w) → reaches w (address_of a i.value) n ≡ false → Obeys k i a c n (Err x)
+  misses w x q t z =
+      let u : reaches (bytes_of (class_of k).width) (address_of a i.value) n ≡ false = rw q z in
+      exits (unreached (wide _ w q t) u)
 
-  loads : (w : ℕ) {e : Effect} → (class_of k).width ≡ w → T (ltb 0 w) → Obeys k i a c n e → Obeys k i a c n (load_if (reaches w (address_of a i.value) n) e)
+  loads : (w : ℕ) {e : Effect} → bytes_of (class_of k).width ≡ w → T (ltb 0 w) → Obeys k i a c n (Ok e) → Obeys k i a c n (load_if (reaches w (address_of a i.value) n) e)
   unfolding load_if
   loads w q t f = either _ (λ _. f) (misses w E.Load q t)
 
-  stores : (w : ℕ) {e : Effect} → (class_of k).width ≡ w → T (ltb 0 w) → Obeys k i a c n e → Obeys k i a c n (store_if (reaches w (address_of a i.value) n) e)
+  stores : (w : ℕ) {e : Effect} → bytes_of (class_of k).width ≡ w → T (ltb 0 w) → Obeys k i a c n (Ok e) → Obeys k i a c n (store_if (reaches w (address_of a i.value) n) e)
   unfolding store_if
   stores w q t f = either _ (λ _. f) (misses w E.Store q t)
 
 -- ---- the instructions
 
-idle : {k : Kind} → (class_of k).flow ≡ Onward → (class_of k).width ≡ 0 → is_mask k ≡ false → is_merge k ≡ false → Idle k
+idle : {k : Kind} → (class_of k).flow ≡ Onward → bytes_of (class_of k).width ≡ 0 → is_mask k ≡ false → is_merge k ≡ false → Idle k
 idle f w a o = record { onward = f; no_access = w; no_mask = a; no_merge = o }
 
 module _ (i : Instruction) (a b : ℕ) (c : Special) (n : ℕ) where
@@ -188,7 +199,7 @@ module _ (i : Instruction) (a b : ℕ) (c : Special) (n : ℕ) where
   immediate_obeys Xori = does (refl, refl)
   immediate_obeys Lui = does (refl, refl)
 
-  shift_obeys : (k : Shift) → Obeys (K.Shift k) i a c n (shift_of k i.rd a b i.shift)
+  shift_obeys : (k : Shift) → Obeys (K.Shift k) i a c n (Ok (shift_of k i.rd a b i.shift))
   shift_obeys Sll = does (refl, refl)
   shift_obeys Srl = does (refl, refl)
   shift_obeys Sra = does (refl, refl)
@@ -196,7 +207,7 @@ module _ (i : Instruction) (a b : ℕ) (c : Special) (n : ℕ) where
   shift_obeys Srlv = does (refl, refl)
   shift_obeys Srav = does (refl, refl)
 
-  multiply_obeys : (k : Multiply) → Obeys (K.Multiply k) i a c n (multiply_of k i.rd a b c.hi c.lo)
+  multiply_obeys : (k : Multiply) → Obeys (K.Multiply k) i a c n (Ok (multiply_of k i.rd a b c.hi c.lo))
   multiply_obeys Mult = multiplies _ refl
   multiply_obeys Multu = multiplies _ refl
   multiply_obeys Div = divides b _ _ refl
@@ -206,7 +217,7 @@ module _ (i : Instruction) (a b : ℕ) (c : Special) (n : ℕ) where
   multiply_obeys Mflo = does (refl, refl)
   multiply_obeys Mtlo = does refl
 
-  conditional_obeys : (ll : Bool) (x : ℕ) → Obeys (K.Access Sc) i a c n (conditional ll i.rt x b)
+  conditional_obeys : (ll : Bool) (x : ℕ) → Obeys (K.Access Sc) i a c n (Ok (conditional ll i.rt x b))
   unfolding conditional
   conditional_obeys true x = does (refl, refl)
   conditional_obeys false x = does (refl, refl)
@@ -227,11 +238,11 @@ module _ (i : Instruction) (a b : ℕ) (c : Special) (n : ℕ) where
     leads : (t : ℕ) → (t ≡ slot_of c.next_pc) ⊎ (t ≡ relative_of c.pc i.value) → Goes (K.Branch k) i a c n t
     leads t h = rw f h
 
-    branches : (t : Bool) → Obeys (K.Branch k) i a c n (branch_if t c.pc i.value)
+    branches : (t : Bool) → Obeys (K.Branch k) i a c n (Ok (branch_if t c.pc i.value))
     unfolding branch_if
-    branches t = either t (λ _. does (leads _ (inr refl))) (λ _. does (leads _ (inl refl)))
+    branches t = one_of t (does (leads _ (inr refl))) (does (leads _ (inl refl)))
 
-    links : (t : Bool) → Puts (K.Branch k) i a c n 31 → Obeys (K.Branch k) i a c n (link_if t c.pc c.next_pc i.value)
+    links : (t : Bool) → Puts (K.Branch k) i a c n 31 → Obeys (K.Branch k) i a c n (Ok (link_if t c.pc c.next_pc i.value))
     unfolding link_if
     links true p = does (p, leads _ (inr refl))
     links false p = does (p, leads _ (inl refl))
@@ -264,19 +275,19 @@ module _ (i : Instruction) (a b : ℕ) (c : Special) (n : ℕ) where
   trap_obeys Teqi = traps _ refl (idle refl refl refl refl)
   trap_obeys Tnei = traps _ refl (idle refl refl refl refl)
 
-  calls : Obeys (K.System Syscall) i a c n (system_call_of i.value c.status)
+  calls : Obeys (K.System Syscall) i a c n (Err (system_call_of i.value c.status))
   unfolding system_call_of
   calls =
-      either (eqb i.value 15 && not (is_user c.status))
-      (λ e. does (kernel (not-true _ (both (eqb i.value 15) _ e).1)))
-      (λ _. does (allowed (inr (inl refl)) (idle refl refl refl refl)))
+      exits_by (eqb i.value 15 && not (is_user c.status))
+      (λ e. exits (kernel (not-true _ (both (eqb i.value 15) _ e).1)))
+      (λ _. exits (allowed (inr (inl refl)) (idle refl refl refl refl)))
 
-  breaks : Obeys (K.System Break) i a c n (breakpoint_of i.value)
+  breaks : Obeys (K.System Break) i a c n (Err (breakpoint_of i.value))
   unfolding breakpoint_of
   breaks =
-      either (eqb i.value 15)
-      (λ e. does (barred (λ u. u.1.1.1 refl (eqb-true _ _ e))))
-      (λ _. does (allowed (inr (inr (inl refl))) (idle refl refl refl refl)))
+      exits_by (eqb i.value 15)
+      (λ e. exits (barred (λ u. u.1.1.1 refl (eqb-true _ _ e))))
+      (λ _. exits (allowed (inr (inr (inl refl))) (idle refl refl refl refl)))
 
   system_obeys : (k : System) → Obeys (K.System k) i a c n (system_of k i.rt i.rd b i.value c)
   system_obeys Syscall = calls

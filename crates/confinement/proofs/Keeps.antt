@@ -9,6 +9,7 @@ use native.Mathlib.Omega.{arith}
 use native.Mathlib.Decide.{dec_lt}
 use lib.Bits.{bit_and, bit_or}
 use lib.ListN.{length}
+use Rattle.std.specs.Prelude.{Result, Ok}
 use Rattle.isa.specs.declared.kind.Alu.TheVariants.{Or}
 use Rattle.isa.specs.declared.kind.Immediate.TheVariants.{Andi}
 use Rattle.isa.specs.declared.kind.Kind.{Kind}
@@ -19,6 +20,7 @@ use Rattle.class.specs.declared.Flow.TheVariants.{Onward, Relative, Region, Regi
 use Rattle.class.specs.Class.{register_written}
 use Rattle.effect.specs.declared.effect.Effect.{Effect}
 use Rattle.effect.specs.declared.effect.Effect.TheVariants.{Write}
+use Rattle.effect.specs.declared.exit.Exit.{Exit}
 use Rattle.effect.specs.Sound.{Aligned}
 use Rattle.branch.specs.Branch.{slot_of, relative_of, region_of}
 use Rattle.branch.proofs.Targets.{relative_aligned, region_aligned}
@@ -29,11 +31,11 @@ use Rattle.system.specs.System.{is_user}
 use Rattle.machine.specs.declared.state.State.{State}
 use Rattle.machine.specs.State.{register_of, special_of}
 use Rattle.parts.specs.Parts.{put_of}
-use Rattle.machine.specs.Apply.{Machine, apply_of}
-use Rattle.machine.specs.Step.{effect_of, effect_at, Outcome, try_of, step_of}
+use Rattle.machine.specs.Apply.{Machine}
+use Rattle.machine.specs.Step.{effect_of, effect_at, Outcome, tried_of, try_of, step_of}
 use Rattle.machine.specs.Resume.{is_served, resumed_of}
 use Rattle.machine.proofs.Valid.{advance_regular, linked_regular}
-use Rattle.machine.proofs.Steps.{exit_leaves, effect_sound, step_valid, step_bytes, step_length}
+use Rattle.machine.proofs.Steps.{exit_leaves, step_valid, step_bytes, step_length}
 use Rattle.checker.specs.Check.{code_of}
 use Rattle.rules.specs.Not.{Not}
 use Rattle.checker.specs.Lawful.{Stands, flow_of, Lands, words_in, Lawful}
@@ -45,7 +47,7 @@ use Rattle.confinement.proofs.Moves.{put_here, Moved, moves}
 use Rattle.confinement.proofs.Parts.{part_same}
 use Rattle.confinement.proofs.Areas.{Area, Data, Code, base_register, base_of, Uses, fits_mask, fits_below, base_aligned, code_bundles, size_most, joins, guard_of}
 use Rattle.confinement.proofs.Invariant.{Aims, Ready, Way, onward, branched, Inside, stands_once, entry_ready, idle_next}
-use Rattle.confinement.proofs.Steps.{in_code, here, stands_here, operands_here, effect_is, step_is, leave, follows_here, data_out, exit_is, step_untouched}
+use Rattle.confinement.proofs.Steps.{in_code, here, stands_here, operands_here, effect_is, step_is, leave, obeys_here, data_out, exit_is, step_untouched}
 
 module _ (l : Layout) (len : ℕ) (img : List ℕ) (ok : Lawful l len img) where
   -- memory untouched outside the data area keeps the code
@@ -147,7 +149,7 @@ module _ (l : Layout) (len : ℕ) (img : List ℕ) (ok : Lawful l len img) where
     abbrev after : State
     after = (step_of s m).machine.state
 
-    applied : after ≡ (apply_of (effect_at s m) s m).state
+    applied : after ≡ (tried_of (effect_at s m) s m).machine.state
     unfolding try_of
     applied = ap (λ (o : Outcome). o.machine.state) (step_is l len img ok s m v)
 
@@ -157,9 +159,9 @@ module _ (l : Layout) (len : ℕ) (img : List ℕ) (ok : Lawful l len img) where
         effect_is l len img ok s m v ∙ ap (λ (y : Kind). by_kind y x base (register_of regs x.rt) (special_of s) (length m)) e
 
     -- register r gets value y, where the effect writes it
-    writes : (r y q : ℕ) → effect_at s m ≡ Write r y → r < 2 ^ 5 → r ≡ q → Not (q ≡ 0) → register_of after.registers q ≡ y
+    writes : (r y q : ℕ) → effect_at s m ≡ Ok (Write r y) → r < 2 ^ 5 → r ≡ q → Not (q ≡ 0) → register_of after.registers q ≡ y
     writes r y q e h p n =
-        ap (λ (t : State). register_of t.registers q) (applied ∙ ap (λ (f : Effect). (apply_of f s m).state) e)
+        ap (λ (t : State). register_of t.registers q) (applied ∙ ap (λ (d : Result Effect Exit). (tried_of d s m).machine.state) e)
         ∙ ap (λ (k : ℕ). register_of (put_of regs k y) q) p
         ∙ put_here regs q y n (omega (arith, h, p, v.valid.registers.count))
 
@@ -208,7 +210,7 @@ module _ (l : Layout) (len : ℕ) (img : List ℕ) (ok : Lawful l len img) where
       unfolding try_of
       moved =
           subst (λ (t : State). Moved x.kind x base s t) (sym applied)
-          (moves x.kind x base s m v.mode (effect_at s m) (effect_sound s m v.valid v.bytes) (follows_here l len img ok s m v)
+          (moves x.kind x base s m v.mode (effect_at s m) (obeys_here l len img ok s m v)
           (ap (λ (o : Outcome). o.number) (sym (step_is l len img ok s m v)) ∙ z))
 
       spares : (r : ℕ) → Not (register_written x ≡ r) → register_of after.registers r ≡ register_of regs r

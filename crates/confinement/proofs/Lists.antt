@@ -11,8 +11,9 @@ use Rattle.layout.specs.declared.Layout.{Layout}
 use Rattle.system.specs.System.{is_user}
 use Rattle.machine.specs.declared.state.State.{State}
 use Rattle.machine.specs.State.{refusal_of}
+use Rattle.std.specs.Prelude.{Option, None, Some}
 use Rattle.effect.specs.declared.effect.Touched.{Touched}
-use Rattle.effect.specs.declared.effect.Touched.TheVariants.{Nothing, Load, Store}
+use Rattle.effect.specs.declared.effect.Touched.TheVariants.{Load, Store}
 use Rattle.effect.specs.Touched.{last_of, cell_of}
 use Rattle.machine.specs.Apply.{Span, span_of}
 use Rattle.machine.specs.Step.{access_at, Outcome, step_of}
@@ -56,24 +57,23 @@ module _ (l : Layout) (len : ℕ) (img : List ℕ) (ok : Lawful l len img) where
   abbrev Ended : ℕ → Type 0
   Ended k = (k ≡ 0) ⊎ Allowed k
 
-  abbrev Told : ℕ → Touched → Type 0
+  abbrev Told : ℕ → Option Touched → Type 0
   Told k t = Ended k × CellInData l (cell_of t)
 
   abbrev Reached : List ℕ → Course → Type 0
   Reached m r = Left m r.machine.state r.machine.memory (Told r.number r.touched)
 
   -- of accesses inside the data area, the last is inside it
-  span_inside : (t : Touched) (x : Span) → InData l x → (t ≡ Nothing) ⊎ (span_of t ≡ x) → CellInData l (cell_of t)
-  span_inside Nothing x h e = inl refl
-  span_inside (Load a w) x h (inl e) = inl (ap (λ t. (span_of t).width) e)
-  span_inside (Load a w) x h (inr e) = subst (InData l) (sym e) h
-  span_inside (Store a w) x h (inl e) = inl (ap (λ t. (span_of t).width) e)
-  span_inside (Store a w) x h (inr e) = subst (InData l) (sym e) h
+  span_inside : (t : Option Touched) (x : Span) → InData l x → (t ≡ None) ⊎ (span_of t ≡ x) → CellInData l (cell_of t)
+  span_inside None x h e = inl refl
+  span_inside (Some (Load a w)) x h (inl e) = inl (ap (λ t. (span_of t).width) e)
+  span_inside (Some (Load a w)) x h (inr e) = subst (InData l) (sym e) h
+  span_inside (Some (Store a w)) x h (inl e) = inl (ap (λ t. (span_of t).width) e)
+  span_inside (Some (Store a w)) x h (inr e) = subst (InData l) (sym e) h
 
-  last_inside : (t u : Touched) → CellInData l (cell_of t) → CellInData l (cell_of u) → CellInData l (cell_of (last_of t u))
-  last_inside t Nothing h k = h
-  last_inside t (Load a w) h k = k
-  last_inside t (Store a w) h k = k
+  last_inside : (t u : Option Touched) → CellInData l (cell_of t) → CellInData l (cell_of u) → CellInData l (cell_of (last_of t u))
+  last_inside t None h k = h
+  last_inside t (Some y) h k = k
 
   step_left : (s : State) (m : List ℕ) → Inside l len img s m → Left m (step_of s m).machine.state (step_of s m).machine.memory (Told (step_of s m).number (step_of s m).touched)
   step_left s m v =

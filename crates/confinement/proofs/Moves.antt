@@ -8,21 +8,22 @@ use lib.Dec.{eqb}
 use lib.ListN.{length, set}
 use lib.Seq.{get_or-set_same, get_or-set_other}
 use borrow.Author.Tests.{ne_eqb}
+use Rattle.std.specs.Prelude.{Result, Ok, Err}
 use Rattle.isa.specs.declared.kind.Kind.{Kind}
 use Rattle.isa.specs.declared.kind.Instruction.{Instruction}
 use Rattle.class.specs.Class.{class_of, named}
 use Rattle.effect.specs.declared.effect.Effect.{Effect}
-use Rattle.effect.specs.declared.effect.Effect.TheVariants.{Exit, Advance, Write, Pair, Jump, Link, LoadByte, LoadHalf, LoadWord, LoadLinked, StoreByte, StoreHalf, StoreWord, StoreLinked, Control, Return}
-use Rattle.effect.specs.Sound.{Sound}
-use Rattle.effect.specs.Exit.{exit_of}
+use Rattle.effect.specs.declared.effect.Effect.TheVariants.{Advance, Write, Pair, Jump, Link, LoadByte, LoadHalf, LoadWord, LoadLinked, StoreByte, StoreHalf, StoreWord, StoreLinked, Control, Return}
+use Rattle.effect.specs.declared.exit.Exit.{Exit}
 use Rattle.effect.proofs.Exits.{number_range}
 use Rattle.system.specs.System.{is_user}
 use Rattle.machine.specs.declared.state.State.{State}
 use Rattle.machine.specs.State.{register_of, special_of}
 use Rattle.parts.specs.Parts.{put_of}
 use Rattle.machine.specs.Apply.{apply_of}
+use Rattle.machine.specs.Step.{tried_of}
 use Rattle.rules.specs.Not.{Not}
-use Rattle.confinement.proofs.ByKind.{Goes, Follows}
+use Rattle.confinement.proofs.ByKind.{Goes, Follows, Obeys}
 
 -- ---- a register written
 
@@ -60,20 +61,23 @@ module _ (k : Kind) (i : Instruction) (a : ℕ) (s : State) (m : List ℕ) (u : 
   in_kernel : {P : Type 0} → is_user s.special.status ≡ false → P
   in_kernel e = absurd (true≢false (sym u ∙ e))
 
-  pub moves : {n at w : ℕ} (e : Effect) → Sound e n at w → Follows k i a (special_of s) n e → exit_of e ≡ 0 → Moved k i a s (apply_of e s m).state
-  moves (Exit e) x f z = let y : ⊥ = omega (arith, (number_range e).0, z) in absurd y
-  moves Advance x f z = record { counter = refl; goes = f; mode = refl; others = stays }
-  moves (Write r v) x f z = record { counter = refl; goes = f.1; mode = refl; others = written r v f.0 }
-  moves (Pair h l) x f z = record { counter = refl; goes = f; mode = refl; others = stays }
-  moves (Jump t) x f z = record { counter = refl; goes = f; mode = refl; others = stays }
-  moves (Link r v t) x f z = record { counter = refl; goes = f.1; mode = refl; others = written r v f.0 }
-  moves (LoadByte r b t) x f z = record { counter = refl; goes = f.1; mode = refl; others = written r _ f.0 }
-  moves (LoadHalf r b t) x f z = record { counter = refl; goes = f.1; mode = refl; others = written r _ f.0 }
-  moves (LoadWord r b) x f z = record { counter = refl; goes = f.1; mode = refl; others = written r _ f.0 }
-  moves (LoadLinked r b) x f z = record { counter = refl; goes = f.1; mode = refl; others = written r _ f.0 }
-  moves (StoreByte b v) x f z = record { counter = refl; goes = f; mode = refl; others = stays }
-  moves (StoreHalf b v) x f z = record { counter = refl; goes = f; mode = refl; others = stays }
-  moves (StoreWord b v) x f z = record { counter = refl; goes = f; mode = refl; others = stays }
-  moves (StoreLinked r b v) x f z = record { counter = refl; goes = f.1; mode = refl; others = written r 1 f.0 }
-  moves (Control r v) x f z = in_kernel f
-  moves (Return t) x f z = in_kernel f
+  carries : (n : ℕ) (e : Effect) → Follows k i a (special_of s) n e → Moved k i a s (apply_of e s m).state
+  carries n Advance f = record { counter = refl; goes = f; mode = refl; others = stays }
+  carries n (Write r v) f = record { counter = refl; goes = f.1; mode = refl; others = written r v f.0 }
+  carries n (Pair h l) f = record { counter = refl; goes = f; mode = refl; others = stays }
+  carries n (Jump t) f = record { counter = refl; goes = f; mode = refl; others = stays }
+  carries n (Link r v t) f = record { counter = refl; goes = f.1; mode = refl; others = written r v f.0 }
+  carries n (LoadByte r b t) f = record { counter = refl; goes = f.1; mode = refl; others = written r _ f.0 }
+  carries n (LoadHalf r b t) f = record { counter = refl; goes = f.1; mode = refl; others = written r _ f.0 }
+  carries n (LoadWord r b) f = record { counter = refl; goes = f.1; mode = refl; others = written r _ f.0 }
+  carries n (LoadLinked r b) f = record { counter = refl; goes = f.1; mode = refl; others = written r _ f.0 }
+  carries n (StoreByte b v) f = record { counter = refl; goes = f; mode = refl; others = stays }
+  carries n (StoreHalf b v) f = record { counter = refl; goes = f; mode = refl; others = stays }
+  carries n (StoreWord b v) f = record { counter = refl; goes = f; mode = refl; others = stays }
+  carries n (StoreLinked r b v) f = record { counter = refl; goes = f.1; mode = refl; others = written r 1 f.0 }
+  carries n (Control r v) f = in_kernel f
+  carries n (Return t) f = in_kernel f
+
+  pub moves : {n : ℕ} (d : Result Effect Exit) → Obeys k i a (special_of s) n d → (tried_of d s m).number ≡ 0 → Moved k i a s (tried_of d s m).machine.state
+  moves {n} (Ok e) o z = carries n e o.follows
+  moves (Err x) o z = let y : ⊥ = omega (arith, (number_range x).0, z) in absurd y

@@ -10,23 +10,24 @@ use lib.Dec.{leb}
 use lib.IntN.{pos}
 use lib.ListN.{length}
 use borrow.Author.Tests.{eqb-false, le-leb, lt-leb, lt-ltb, le-ltb}
-use Rattle.std.specs.Prelude.{Some}
+use Rattle.std.specs.Prelude.{Some, Result, Ok, Err}
 use Rattle.word.specs.Number.{extend_of}
 use Rattle.word.specs.Bytes.{load_of}
 use Rattle.word.proofs.Memory.{load_lt}
+use Rattle.isa.specs.declared.kind.Kind.{Kind}
 use Rattle.isa.specs.declared.kind.Instruction.{Instruction}
+use Rattle.class.specs.Class.{class_of}
 use Rattle.isa.specs.Reading.{read_of}
 use Rattle.isa.proofs.RoundTrip.{Operands, read_operands}
 use Rattle.effect.specs.declared.effect.Special.{Special}
 use Rattle.effect.specs.declared.effect.Effect.{Effect}
-use Rattle.effect.specs.declared.effect.Effect.TheVariants.{Exit, Advance, Write, Pair, Jump, Link, LoadByte, LoadHalf, LoadWord, LoadLinked, StoreByte, StoreHalf, StoreWord, StoreLinked, Control, Return}
-use Rattle.effect.specs.Exit.{exit_of}
+use Rattle.effect.specs.declared.exit.Exit.{Exit}
 use Rattle.access.specs.Access.{address_of, reaches}
 use Rattle.layout.specs.declared.Layout.{Layout}
 use Rattle.machine.specs.declared.state.State.{State}
 use Rattle.machine.specs.State.{register_of, special_of, refusal_of}
 use Rattle.machine.specs.Apply.{span, Outside}
-use Rattle.machine.specs.Step.{effect_of, effect_at, instruction_access, access_at, Outcome, try_of, step_of}
+use Rattle.machine.specs.Step.{effect_of, effect_at, instruction_access, access_at, Outcome, tried_of, try_of, step_of}
 use Rattle.machine.proofs.Valid.{valid_lawful}
 use Rattle.machine.proofs.Steps.{no_refusal, step_outside, step_length}
 use Rattle.checker.specs.Check.{code_of}
@@ -35,29 +36,15 @@ use Rattle.checker.specs.Lawful.{Stands, Accesses, ByRegister, width_of, words_i
 use Rattle.confinement.specs.Events.{is_data}
 use Rattle.confinement.specs.Lists.{at}
 use Rattle.confinement.specs.Demand.{Within, Allowed, Confined, Untouched}
-use Rattle.confinement.proofs.ByKind.{Follows, Leaves, allowed, unreached, unaligned, barred, kernel, Idle, obeys}
+use Rattle.confinement.proofs.ByKind.{Obeys, Leaves, allowed, unreached, unaligned, barred, kernel, Idle, obeys}
 use Rattle.confinement.proofs.Parts.{load_part}
-use Rattle.confinement.proofs.Areas.{Data, Code, width_is, sum_width, base_aligned}
+use Rattle.confinement.proofs.Areas.{Data, Code, sum_width, base_aligned}
 use Rattle.confinement.proofs.Invariant.{Entry, Inside, way_in, bundle_entry}
 
 -- an exit has a reason
-exit_by : {i : Instruction} {a n : ℕ} (c : Special) (e : Effect) → Follows i.kind i a c n e → (exit_of e ≡ 0) ⊎ Leaves i.kind i a c n (exit_of e)
-exit_by c (Exit e) f = inr f
-exit_by c Advance f = inl refl
-exit_by c (Write r v) f = inl refl
-exit_by c (Pair h l) f = inl refl
-exit_by c (Jump t) f = inl refl
-exit_by c (Link r v t) f = inl refl
-exit_by c (LoadByte r x s) f = inl refl
-exit_by c (LoadHalf r x s) f = inl refl
-exit_by c (LoadWord r x) f = inl refl
-exit_by c (LoadLinked r x) f = inl refl
-exit_by c (StoreByte x v) f = inl refl
-exit_by c (StoreHalf x v) f = inl refl
-exit_by c (StoreWord x v) f = inl refl
-exit_by c (StoreLinked r x v) f = inl refl
-exit_by c (Control r v) f = inl refl
-exit_by c (Return s) f = inl refl
+exit_by : {k : Kind} {i : Instruction} {a n : ℕ} (c : Special) (d : Result Effect Exit) (s : State) (m : List ℕ) → Obeys k i a c n d → ((tried_of d s m).number ≡ 0) ⊎ Leaves k i a c n (tried_of d s m).number
+exit_by c (Ok e) s m o = inl refl
+exit_by c (Err x) s m o = inr o.follows
 
 pub not_data : (l : Layout) (a : ℕ) → is_data l a ≡ false → (a < l.data_base) ⊎ (l.data_base + l.data_size ≤ a)
 unfolding is_data
@@ -144,13 +131,12 @@ module _ (l : Layout) (len : ℕ) (img : List ℕ) (ok : Lawful l len img) (s : 
   pub touch : Accesses here → Touch
   touch u =
       let (d, (p, (o, (z, (q, (r, f)))))) = v.position.ready.now Data here stands_here u in
-      let w = width_is here u in
       let e : address_of base here.value ≡ l.data_base + d + o =
       ap (λ (x : ℕ). address_of x here.value) p ∙ address_is (l.data_base + d) o here.value z (omega (arith, f, ok.r5.1, ok.r1)) in
       record {
         within = (omega (arith, e), omega (arith, e, f));
         aligned =
-            ap (λ (x : ℕ). x % width_of here) e ∙ sum_width w l.data_base d o (base_aligned l len img ok Data) q r;
+            ap (λ (x : ℕ). x % width_of here) e ∙ sum_width (class_of here.kind).width u l.data_base d o (base_aligned l len img ok Data) q r;
       }
 
   -- JR and JALR lead to a bundle
@@ -166,10 +152,9 @@ module _ (l : Layout) (len : ℕ) (img : List ℕ) (ok : Lawful l len img) (s : 
 
   -- ---- its exits
 
-  pub follows_here : Follows here.kind here base (special_of s) (length m) (effect_at s m)
+  pub obeys_here : Obeys here.kind here base (special_of s) (length m) (effect_at s m)
   unfolding effect_of
-  follows_here =
-      rw effect_is (obeys here base (register_of s.registers here.rt) (special_of s) (length m)).follows
+  obeys_here = rw effect_is (obeys here base (register_of s.registers here.rt) (special_of s) (length m))
 
   reached : Accesses here → reaches (width_of here) (address_of base here.value) (length m) ≡ true
   unfolding reaches
@@ -185,13 +170,13 @@ module _ (l : Layout) (len : ℕ) (img : List ℕ) (ok : Lawful l len img) (s : 
   leaves_allowed (barred u) = absurd (u (ok.r9 i in_code here stands_here))
   leaves_allowed (kernel e) = absurd (true≢false (sym v.mode ∙ e))
 
-  number_is : (step_of s m).number ≡ exit_of (effect_at s m)
+  number_is : (step_of s m).number ≡ (tried_of (effect_at s m) s m).number
   unfolding try_of
   number_is = ap (λ (o : Outcome). o.number) step_is
 
   -- a step completes, or exits as allowed at a word that is in no guard
   pub exit_is : ((step_of s m).number ≡ 0) ⊎ (Allowed (step_of s m).number × Idle here.kind)
-  exit_is = rw number_is (⊎_elim inl (λ f. inr (leaves_allowed f)) (exit_by (special_of s) (effect_at s m) follows_here))
+  exit_is = rw number_is (⊎_elim inl (λ f. inr (leaves_allowed f)) (exit_by (special_of s) (effect_at s m) s m obeys_here))
 
   -- ---- confined
 

@@ -9,16 +9,18 @@ use native.Mathlib.Decide.{dec_lt, ℕ_discrete}
 use lib.Dec.{eqb}
 use lib.ListN.{length, get_or, set, length-set}
 use lib.Seq.{get_or-set_same, get_or-set_other, set_out}
+use Rattle.std.specs.Prelude.{Result, Ok, Err}
 use Rattle.word.specs.Bytes.{load_of, store_of}
 use Rattle.word.proofs.Memory.{load_same, store_length}
 use Rattle.effect.specs.declared.effect.Effect.{Effect}
-use Rattle.effect.specs.declared.effect.Effect.TheVariants.{Exit, Advance, Write, Pair, Jump, Link, LoadByte, LoadHalf, LoadWord, LoadLinked, StoreByte, StoreHalf, StoreWord, StoreLinked, Control, Return}
+use Rattle.effect.specs.declared.exit.Exit.{Exit}
+use Rattle.effect.specs.declared.effect.Effect.TheVariants.{Advance, Write, Pair, Jump, Link, LoadByte, LoadHalf, LoadWord, LoadLinked, StoreByte, StoreHalf, StoreWord, StoreLinked, Control, Return}
 use Rattle.effect.specs.Sound.{Reach, Sound}
 use Rattle.layout.specs.declared.Layout.{Layout}
 use Rattle.machine.specs.declared.state.State.{State}
 use Rattle.machine.specs.State.{refusal_of}
 use Rattle.machine.specs.Apply.{apply_of}
-use Rattle.machine.specs.Step.{effect_at, Outcome, try_of, step_of}
+use Rattle.machine.specs.Step.{effect_at, access_at, Outcome, tried_of, try_of, step_of}
 use Rattle.machine.specs.Run.{Course, repeat_of, run_of}
 use Rattle.machine.specs.Resume.{is_served, resume_of}
 use Rattle.machine.proofs.Steps.{effect_sound}
@@ -92,7 +94,6 @@ module _ (l : Layout) where
 
   module _ (s : State) (m n : List ℕ) (t : Twin l m n) where
     applied_twin : (e : Effect) → Twin l (apply_of e s m).memory (apply_of e s n).memory
-    applied_twin (Exit e) = t
     applied_twin Advance = t
     applied_twin (Write r v) = t
     applied_twin (Pair h o) = t
@@ -123,8 +124,7 @@ module _ (l : Layout) where
               let e : l.data_base + (i - l.data_base) ≡ i = omega arith in
               subst (λ (x : ℕ). get_or m x 0 ≡ get_or n x 0) e (t.same_data (i - l.data_base) (omega arith))
 
-      applied_state : (e : Effect) → Sound e len b w → (apply_of e s m).state ≡ (apply_of e s n).state
-      applied_state (Exit e) k = refl
+      applied_state : (e : Effect) → Sound (Ok e) len b w → (apply_of e s m).state ≡ (apply_of e s n).state
       applied_state Advance k = refl
       applied_state (Write r v) k = refl
       applied_state (Pair h o) k = refl
@@ -165,16 +165,19 @@ module _ (l : Layout) (len : ℕ) (img : List ℕ) (ok : Lawful l len img) where
     unfolding effect_at
     same_effect = rw (t.same_length, same_fetch)
 
-    try_agrees : Agree (try_of s m) (try_of s n)
-    unfolding try_of
-    try_agrees =
-        rw same_effect
-        (record {
+    tried_agrees : (d : Result Effect Exit) → Sound d (length n) (access_at s n).at (access_at s n).width → Agree (tried_of d s m) (tried_of d s n)
+    tried_agrees (Ok e) k =
+        record {
           numbers = refl;
           touches = refl;
-          states = applied_state l s m n t there.access (effect_at s n) (effect_sound s n v.valid v.bytes);
-          twins = applied_twin l s m n t (effect_at s n);
-        })
+          states = applied_state l s m n t there.access e k;
+          twins = applied_twin l s m n t e;
+        }
+    tried_agrees (Err x) k = record { numbers = refl; touches = refl; states = refl; twins = t }
+
+    try_agrees : Agree (try_of s m) (try_of s n)
+    unfolding try_of
+    try_agrees = rw same_effect (tried_agrees (effect_at s n) (effect_sound s n v.valid v.bytes))
 
     same_refusal : refusal_of s (length m) ≡ refusal_of s (length n)
     same_refusal = ap (refusal_of s) t.same_length

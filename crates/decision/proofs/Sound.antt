@@ -9,10 +9,11 @@ use native.Mathlib.Nat.{div-le_self, mod-le}
 use lib.Dec.{leb, eqb}
 use lib.Bits.{and_lt, or_lt, xor_lt}
 use borrow.Author.Tests.{leb-true, eqb-true}
+use Rattle.std.specs.Prelude.{Result, Ok, Err}
 use Rattle.word.specs.Number.{signed_of, fits_of}
 use Rattle.std.proofs.lemmas.Nat.{mul-lt}
 use Rattle.word.proofs.Numbers.{wrap_below}
-use Rattle.class.specs.Class.{class_of}
+use Rattle.class.specs.Class.{bytes_of, class_of}
 use Rattle.isa.proofs.RoundTrip.{Operands}
 use Rattle.isa.specs.declared.kind.Instruction.{Instruction}
 use Rattle.isa.specs.declared.kind.Alu.{Alu}
@@ -35,40 +36,44 @@ use Rattle.isa.specs.declared.kind.Kind.{Kind}
 use Rattle.isa.specs.declared.kind.Kind.TheVariants as K
 use Rattle.effect.specs.declared.effect.Special.{Special}
 use Rattle.word.proofs.Choice.{by_test, both}
-use Rattle.effect.specs.declared.exit.Exit as X
+use Rattle.effect.specs.declared.exit.Exit.{Exit}
 use Rattle.effect.specs.declared.effect.Effect.{Effect}
-use Rattle.effect.specs.declared.effect.Effect.TheVariants.{Exit, Advance, Write, Pair, Jump, Link}
+use Rattle.effect.specs.declared.effect.Effect.TheVariants.{Advance, Write, Pair, Jump, Link}
 use Rattle.arithmetic.specs.Arithmetic.{alu_of, immediate_of, shift_of, multiply_of, bit, checked, product, divided, shifted_left, shifted_right, shifted_signed}
 use Rattle.access.specs.Access.{access_of, address_of, reaches, load_if, store_if, conditional}
 use Rattle.branch.specs.Branch.{branch_of, branch_if, link_if, jump_if, link_of}
 use Rattle.trap.specs.Trap.{trap_of, trap_if}
-use Rattle.system.specs.System.{system_of, control_of, restored, system_call_of, breakpoint_of, privileged, is_user}
+use Rattle.system.specs.System.{system_of, control_of, restored, privileged, is_user}
 use Rattle.branch.proofs.Targets.{slot_aligned, relative_aligned, region_aligned}
 use Rattle.decision.specs.Decision.{by_kind, decision_of}
-use Rattle.effect.specs.Sound.{Sound, Performable, Reach, Register, Word, Aligned, Regular}
+use Rattle.effect.specs.Sound.{Sound, Reach, Register, Word, Aligned, Regular}
 
 -- ---- sound effects of each form
 
 module _ {n at w : ℕ} where
-  pub either : (t : Bool) {x y : Effect} → (t ≡ true → Sound x n at w) → Sound y n at w → Sound (cond t x y) n at w
-  either t p q = by_test (λ e. Sound e n at w) t p (λ _. q)
+  pub exits : (x : Exit) → Sound (Err x) n at w
+  exits x = record { keeps = tt }
 
-  pub exits : (e : X.Exit) → Sound (Exit e) n at w
-  exits e = record { keeps = tt }
+  either : (t : Bool) {x y : Result Effect Exit} → (t ≡ true → Sound x n at w) → Sound y n at w → Sound (cond t x y) n at w
+  either t p q = by_test (λ d. Sound d n at w) t p (λ _. q)
 
-  advances : Sound Advance n at w
+  -- one of two effects
+  one_of : (t : Bool) {x y : Effect} → Sound (Ok x) n at w → Sound (Ok y) n at w → Sound (Ok (cond t x y)) n at w
+  one_of t p q = by_test (λ e. Sound (Ok e) n at w) t (λ _. p) (λ _. q)
+
+  advances : Sound (Ok Advance) n at w
   advances = record { keeps = tt }
 
-  writes : {r v : ℕ} → Register r → Word v → Sound (Write r v) n at w
+  writes : {r v : ℕ} → Register r → Word v → Sound (Ok (Write r v)) n at w
   writes h k = record { keeps = (h, k) }
 
-  pairs : {h l : ℕ} → Word h → Word l → Sound (Pair h l) n at w
+  pairs : {h l : ℕ} → Word h → Word l → Sound (Ok (Pair h l)) n at w
   pairs h k = record { keeps = (h, k) }
 
-  jumps : {t : ℕ} → Aligned t → Sound (Jump t) n at w
+  jumps : {t : ℕ} → Aligned t → Sound (Ok (Jump t)) n at w
   jumps h = record { keeps = h }
 
-  links : {r v t : ℕ} → Register r → Word v → Aligned t → Sound (Link r v t) n at w
+  links : {r v t : ℕ} → Register r → Word v → Aligned t → Sound (Ok (Link r v t)) n at w
   links h k l = record { keeps = (h, (k, l)) }
 
 -- ---- arithmetic
@@ -79,20 +84,20 @@ bit_below true = omega arith
 bit_below false = omega arith
 
 module _ {n at w r : ℕ} (h : Register r) where
-  sets : (t : Bool) → Sound (Write r (bit t)) n at w
+  sets : (t : Bool) → Sound (Ok (Write r (bit t))) n at w
   sets t = writes h (bit_below t)
 
   checks : (z : ℤ) → Sound (checked r z) n at w
   unfolding checked
   checks z = either (fits_of 32 z) (λ _. writes h (wrap_below 32 z)) (exits _)
 
-multiplies : {n at w : ℕ} (p : ℕ) → p < 2 ^ 64 → Sound (product p) n at w
+multiplies : {n at w : ℕ} (p : ℕ) → p < 2 ^ 64 → Sound (Ok (product p)) n at w
 unfolding product
 multiplies p h = pairs (omega arith) (omega arith)
 
-divides : {n at w q r : ℕ} (d : ℕ) → Word q → Word r → Sound (divided d q r) n at w
+divides : {n at w q r : ℕ} (d : ℕ) → Word q → Word r → Sound (Ok (divided d q r)) n at w
 unfolding divided
-divides d h k = either (eqb d 0) (λ _. advances) (pairs k h)
+divides d h k = one_of (eqb d 0) advances (pairs k h)
 
 half_below : (v : ℕ) → v % 2 ^ 16 < 2 ^ 32
 half_below v = omega arith
@@ -132,7 +137,7 @@ module _ {n at w rd a b : ℕ} (h : Register rd) (ha : Word a) (hb : Word b) whe
   immediate_sound Xori v = writes h (xor_lt 32 a (v % 2 ^ 16) ha (half_below v))
   immediate_sound Lui v = writes h (omega arith)
 
-  shift_sound : (k : Shift) (sa : ℕ) → Sound (shift_of k rd a b sa) n at w
+  shift_sound : (k : Shift) (sa : ℕ) → Sound (Ok (shift_of k rd a b sa)) n at w
   shift_sound Sll sa = writes h (left_below b (sa % 2 ^ 5))
   shift_sound Srl sa = writes h (right_below (sa % 2 ^ 5) hb)
   shift_sound Sra sa = writes h (signed_below b (sa % 2 ^ 5))
@@ -141,7 +146,7 @@ module _ {n at w rd a b : ℕ} (h : Register rd) (ha : Word a) (hb : Word b) whe
   shift_sound Srav sa = writes h (signed_below b (a % 2 ^ 5))
 
   module _ {hi lo : ℕ} (hh : Word hi) (hl : Word lo) where
-    multiply_sound : (k : Multiply) → Sound (multiply_of k rd a b hi lo) n at w
+    multiply_sound : (k : Multiply) → Sound (Ok (multiply_of k rd a b hi lo)) n at w
     multiply_sound Mult = multiplies _ (wrap_below 64 (signed_of 32 a *ℤ signed_of 32 b))
     multiply_sound Multu = multiplies _ (mul-lt a b (2 ^ 32) (2 ^ 32) ha hb)
     multiply_sound Div =
@@ -161,19 +166,19 @@ module _ {n : ℕ} where
       record { inside = leb-true (a + w) n (both (eqb (a % w) 0) (leb (a + w) n) e).1; same_address = refl; same_width = refl }
 
   module _ {at w : ℕ} where
-    loads : (t : Bool) (e : Effect) → (t ≡ true → Sound e n at w) → Sound (load_if t e) n at w
+    loads : (t : Bool) (e : Effect) → (t ≡ true → Sound (Ok e) n at w) → Sound (load_if t e) n at w
     unfolding load_if
     loads t e p = either t p (exits _)
 
-    stores : (t : Bool) (e : Effect) → (t ≡ true → Sound e n at w) → Sound (store_if t e) n at w
+    stores : (t : Bool) (e : Effect) → (t ≡ true → Sound (Ok e) n at w) → Sound (store_if t e) n at w
     unfolding store_if
     stores t e p = either t p (exits _)
 
-    conditional_sound : {rt : ℕ} → Register rt → (ll : Bool) (a b : ℕ) → Reach a 4 n at w → Sound (conditional ll rt a b) n at w
+    conditional_sound : {rt : ℕ} → Register rt → (ll : Bool) (a b : ℕ) → Reach a 4 n at w → Sound (Ok (conditional ll rt a b)) n at w
     unfolding conditional
-    conditional_sound h ll a b l = either ll (λ _. record { keeps = (h, l) }) (writes h (omega arith))
+    conditional_sound h ll a b l = one_of ll (record { keeps = (h, l) }) (writes h (omega arith))
 
-  access_sound : {rt : ℕ} → Register rt → (k : Access) (a b v : ℕ) (ll : Bool) → Sound (access_of k rt a b v ll n) n (address_of a v) (class_of (K.Access k)).width
+  access_sound : {rt : ℕ} → Register rt → (k : Access) (a b v : ℕ) (ll : Bool) → Sound (access_of k rt a b v ll n) n (address_of a v) (bytes_of (class_of (K.Access k)).width)
   access_sound h Lb a b v ll = loads _ _ (λ e. record { keeps = (h, reach _ _ e) })
   access_sound h Lbu a b v ll = loads _ _ (λ e. record { keeps = (h, reach _ _ e) })
   access_sound h Sb a b v ll = stores _ _ (λ e. record { keeps = reach _ _ e })
@@ -192,16 +197,16 @@ unfolding link_of
 link_below pc = omega arith
 
 module _ {n at w pc : ℕ} (hp : Aligned pc) where
-  branches : (t : Bool) (v : ℕ) → Sound (branch_if t pc v) n at w
+  branches : (t : Bool) (v : ℕ) → Sound (Ok (branch_if t pc v)) n at w
   unfolding branch_if
-  branches t v = either t (λ _. jumps (relative_aligned v hp)) advances
+  branches t v = one_of t (jumps (relative_aligned v hp)) advances
 
-  linking : (t : Bool) (next v : ℕ) → Aligned next → Sound (link_if t pc next v) n at w
+  linking : (t : Bool) (next v : ℕ) → Aligned next → Sound (Ok (link_if t pc next v)) n at w
   unfolding link_if
   linking true next v h = links (omega arith) (link_below pc) (relative_aligned v hp)
   linking false next v h = links (omega arith) (link_below pc) (slot_aligned h)
 
-  jumping : (t : ℕ) (e : Effect) → (t % 4 ≡ 0 → Sound e n at w) → Sound (jump_if t e) n at w
+  jumping : (t : ℕ) (e : Effect) → (t % 4 ≡ 0 → Sound (Ok e) n at w) → Sound (jump_if t e) n at w
   unfolding jump_if
   jumping t e p = either (eqb (t % 4) 0) (λ q. p (eqb-true (t % 4) 0 q)) (exits _)
 
@@ -254,21 +259,13 @@ unfolding restored
 restored_below status = omega arith
 
 module _ {n at w rt b : ℕ} {s : Special} (h : Register rt) (hb : Word b) (r : Regular s) where
-  guarded : (e : X.Exit) (x : Effect) → Sound x n at w → Sound (privileged s.status e x) n at w
+  guarded : (e : Exit) (x : Effect) → Sound (Ok x) n at w → Sound (privileged s.status e x) n at w
   unfolding privileged
   guarded e x p = either (is_user s.status) (λ _. exits e) p
 
-  calls : (v : ℕ) → Sound (system_call_of v s.status) n at w
-  unfolding system_call_of
-  calls v = either (eqb v 15 && not (is_user s.status)) (λ _. exits _) (exits _)
-
-  breaks : (v : ℕ) → Sound (breakpoint_of v) n at w
-  unfolding breakpoint_of
-  breaks v = either (eqb v 15) (λ _. exits _) (exits _)
-
   system_sound : (k : System) (rd v : ℕ) → Sound (system_of k rt rd b v s) n at w
-  system_sound Syscall rd v = calls v
-  system_sound Break rd v = breaks v
+  system_sound Syscall rd v = exits _
+  system_sound Break rd v = exits _
   system_sound Rfe rd v = guarded _ _ (record { keeps = restored_below s.status })
   system_sound Mfc0 rd v = guarded _ _ (writes h (control_below r rd))
   system_sound Mtc0 rd v = guarded _ _ (record { keeps = hb })
@@ -277,7 +274,7 @@ module _ {n at w rt b : ℕ} {s : Special} (h : Register rt) (hb : Word b) (r : 
 -- ---- every instruction
 
 module _ (i : Instruction) (o : Operands i) {a b : ℕ} (ha : Word a) (hb : Word b) {s : Special} (r : Regular s) (n : ℕ) where
-  by_kind_law : (k : Kind) → Sound (by_kind k i a b s n) n (address_of a i.value) (class_of k).width
+  by_kind_law : (k : Kind) → Sound (by_kind k i a b s n) n (address_of a i.value) (bytes_of (class_of k).width)
   by_kind_law (K.Alu k) = alu_sound o.rd ha hb k
   by_kind_law (K.Immediate k) = immediate_sound o.rt ha hb k i.value
   by_kind_law (K.Shift k) = shift_sound o.rd ha hb k i.shift
@@ -287,9 +284,6 @@ module _ (i : Instruction) (o : Operands i) {a b : ℕ} (ha : Word a) (hb : Word
   by_kind_law (K.Trap k) = trap_sound k a b i.value
   by_kind_law (K.System k) = system_sound o.rt hb r k i.rd i.value
 
-  pub decision_sound : Sound (decision_of i a b s n) n (address_of a i.value) (class_of i.kind).width
+  pub decision_sound : Sound (decision_of i a b s n) n (address_of a i.value) (bytes_of (class_of i.kind).width)
   unfolding decision_of
   decision_sound = by_kind_law i.kind
-
-  pub decision_performable : (e : Effect) → e ≡ decision_of i a b s n → Performable e n
-  decision_performable e q = record { at = address_of a i.value; width = (class_of i.kind).width; sound = rw q decision_sound }

@@ -3,30 +3,28 @@ use Prim.Native.Nat.{ℕ}
 use mathlib.Core.Path.{◌≡◌, refl}
 use mathlib.Core.Logic.{⊎_elim, ◌⊎◌, inl, inr}
 use native.Mathlib.Omega.{arith}
+use Rattle.std.specs.Prelude.{Option, None, Some}
 use Rattle.effect.specs.declared.effect.Effect.{Effect}
-use Rattle.effect.specs.declared.effect.Effect.TheVariants.{Exit, Advance, Write, Pair, Jump, Link, LoadByte, LoadHalf, LoadWord, LoadLinked, StoreByte, StoreHalf, StoreWord, StoreLinked, Control, Return}
+use Rattle.effect.specs.declared.effect.Effect.TheVariants.{Advance, Write, Pair, Jump, Link, LoadByte, LoadHalf, LoadWord, LoadLinked, StoreByte, StoreHalf, StoreWord, StoreLinked, Control, Return}
 use Rattle.effect.specs.declared.effect.Touched.{Touched}
-use Rattle.effect.specs.declared.effect.Touched.TheVariants.{Nothing, Load, Store}
+use Rattle.effect.specs.declared.effect.Touched.TheVariants.{Load, Store}
 use Rattle.effect.specs.Touched.{touched_of, last_of}
 
 -- none before
-pub last_first : (t : Touched) → last_of Nothing t ≡ t
-last_first Nothing = refl
-last_first (Load a w) = refl
-last_first (Store a w) = refl
+pub last_first : (t : Option Touched) → last_of None t ≡ t
+last_first None = refl
+last_first (Some t) = refl
 
-pub last_joined : (x y z : Touched) → last_of x (last_of y z) ≡ last_of (last_of x y) z
-last_joined x y Nothing = refl
-last_joined x y (Load a w) = refl
-last_joined x y (Store a w) = refl
+pub last_joined : (x y z : Option Touched) → last_of x (last_of y z) ≡ last_of (last_of x y) z
+last_joined x y None = refl
+last_joined x y (Some t) = refl
 
 -- an access after it, and none
-pub last_some : (x y : Touched) → (y ≡ Nothing → ⊥) → last_of x y ≡ y
-last_some x Nothing n = absurd (n refl)
-last_some x (Load a w) n = refl
-last_some x (Store a w) n = refl
+pub last_some : (x y : Option Touched) → (y ≡ None → ⊥) → last_of x y ≡ y
+last_some x None n = absurd (n refl)
+last_some x (Some t) n = refl
 
-pub last_none : (x y : Touched) → y ≡ Nothing → last_of x y ≡ x
+pub last_none : (x y : Option Touched) → y ≡ None → last_of x y ≡ x
 last_none x y e = rw e
 
 -- the widths of accesses
@@ -36,13 +34,12 @@ Width w = (w ≡ 1) ⊎ ((w ≡ 2) ⊎ (w ≡ 4))
 pub width_some : (w : ℕ) → Width w → w ≡ 0 → ⊥
 width_some w h z = ⊎_elim (λ e. omega (arith, e, z)) (⊎_elim (λ e. omega (arith, e, z)) (λ e. omega (arith, e, z))) h
 
-abbrev pub Wide : Touched → Type 0
-Wide Nothing = Unit {0}
-Wide (Load a w) = Width w
-Wide (Store a w) = Width w
+abbrev pub Wide : Option Touched → Type 0
+Wide None = Unit {0}
+Wide (Some (Load a w)) = Width w
+Wide (Some (Store a w)) = Width w
 
 pub touched_wide : (e : Effect) → Wide (touched_of e)
-touched_wide (Exit e) = tt
 touched_wide Advance = tt
 touched_wide (Write r v) = tt
 touched_wide (Pair h l) = tt
@@ -59,7 +56,6 @@ touched_wide (StoreLinked r a v) = inr (inr refl)
 touched_wide (Control r v) = tt
 touched_wide (Return s) = tt
 
-pub last_wide : (x y : Touched) → Wide x → Wide y → Wide (last_of x y)
-last_wide x Nothing p q = p
-last_wide x (Load a w) p q = q
-last_wide x (Store a w) p q = q
+pub last_wide : (x y : Option Touched) → Wide x → Wide y → Wide (last_of x y)
+last_wide x None p q = p
+last_wide x (Some t) p q = q

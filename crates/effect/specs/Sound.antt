@@ -1,8 +1,10 @@
--- What every effect of an instruction keeps to, so that it can be carried out on 32 registers and n bytes of memory.
-use Rattle.std.specs.Prelude.{ℕ, ◌+◌, ◌%◌, ◌^◌, ◌≤◌, ◌<◌, ◌≡◌}
+-- What every effect of an instruction keeps to, so that it can be carried out on 32 registers and n bytes of memory. An exit carries nothing out.
+use Rattle.std.specs.Prelude.{ℕ, ◌+◌, ◌%◌, ◌^◌, ◌≤◌, ◌<◌, ◌≡◌, Result}
+use Rattle.std.specs.Result.{IfOk}
+use Rattle.effect.specs.declared.exit.Exit.{Exit}
 use Rattle.effect.specs.declared.effect.Special.{Special}
 use Rattle.effect.specs.declared.effect.Effect.{Effect}
-use Rattle.effect.specs.declared.effect.Effect.TheVariants.{Exit, Advance, Write, Pair, Jump, Link, LoadByte, LoadHalf, LoadWord, LoadLinked, StoreByte, StoreHalf, StoreWord, StoreLinked, Control, Return}
+use Rattle.effect.specs.declared.effect.Effect.TheVariants.{Advance, Write, Pair, Jump, Link, LoadByte, LoadHalf, LoadWord, LoadLinked, StoreByte, StoreHalf, StoreWord, StoreLinked, Control, Return}
 
 -- a register's number, a word, a word-aligned address
 abbrev pub Register : ℕ → Type 0
@@ -21,7 +23,6 @@ pub record Reach (a w n at width : ℕ) : Type 0 where
   pub same_width : w ≡ width
 
 abbrev pub Keeps : Effect → ℕ → ℕ → ℕ → Type 0
-Keeps (Exit e) n at width = Unit {0}
 Keeps Advance n at width = Unit {0}
 Keeps (Write r v) n at width = Register r × Word v
 Keeps (Pair h l) n at width = Word h × Word l
@@ -39,8 +40,8 @@ Keeps (Control r v) n at width = Word v
 Keeps (Return s) n at width = s < 2 ^ 13
 
 -- with n bytes of memory, by an instruction whose access, if it is one, is of `width` bytes at `at`
-pub record Sound (e : Effect) (n at width : ℕ) : Type 0 where
-  pub keeps : Keeps e n at width
+pub record Sound (d : Result Effect Exit) (n at width : ℕ) : Type 0 where
+  pub keeps : IfOk d (λ e. Keeps e n at width)
 
 -- special registers that refusal 17 lets pass: words, aligned program counters, no status bit above 12
 pub record Regular (s : Special) : Type 0 where
@@ -53,8 +54,8 @@ pub record Regular (s : Special) : Type 0 where
   pub cause : Word s.cause
   pub epc : Word s.epc
 
--- sound for some instruction
+-- it can be carried out with n bytes of memory, as it is some instruction's
 pub record Performable (e : Effect) (n : ℕ) : Type 0 where
   pub at : ℕ
   pub width : ℕ
-  pub sound : Sound e n at width
+  pub keeps : Keeps e n at width

@@ -1,6 +1,4 @@
-// What a step does, and what it is decided from beside the instruction, its two source registers and the memory's length.
-
-use crate::exit::Exit;
+// What a step that completes does, and what it is decided from beside the instruction, its two source registers and the memory's length.
 
 // The registers of a state beside its 32 general ones: HI, LO, the program counters, the LL bit, control registers 8, 12, 13 and 14.
 #[derive(Clone, Copy)]
@@ -16,12 +14,11 @@ pub struct Special {
     pub epc: u32,
 }
 
-// Every effect but Exit, Jump and Link also moves the program counters on by one instruction. The order is one in which the compiler makes quick code of a
+// Every effect but Jump and Link also moves the program counters on by one instruction. The order is one in which the compiler makes quick code of a
 // run's loop: it decides where the arms stand, and nothing else.
 // A case for each width: `apply` hands the width on as a const parameter, and would have to match a width that is a value all the same.
 #[derive(Clone, Copy)]
 pub enum Effect {
-    Exit(Exit),
     Advance,
     // Register, value.
     Write(u32, u32),
@@ -49,11 +46,9 @@ pub enum Effect {
     StoreLinked(u32, u32, u32),
 }
 
-// The memory access that a step completes, or a run completed last: what document 02 calls touched. No Option of a load or a store, which would be
-// matched twice wherever this is matched once.
+// A memory access that a step completes, or a run completed last: what document 02 calls touched.
 #[derive(Clone, Copy)]
 pub enum Touched {
-    Nothing,
     // Address, width.
     Load(u32, u32),
     Store(u32, u32),
@@ -67,16 +62,16 @@ pub struct Cell {
     pub store: u32,
 }
 
-impl From<Touched> for Cell {
+impl From<Option<Touched>> for Cell {
     ghost use Rattle.effect.specs.Touched.{IsCellOf};
 
     ghost from_gives = { IsCellOf };
 
-    fn from(t: Touched) -> Cell {
+    fn from(t: Option<Touched>) -> Cell {
         let (address, width, store) = match t {
-            Touched::Nothing => (0, 0, 0),
-            Touched::Load(a, w) => (a, w, 0),
-            Touched::Store(a, w) => (a, w, 1),
+            None => (0, 0, 0),
+            Some(Touched::Load(a, w)) => (a, w, 0),
+            Some(Touched::Store(a, w)) => (a, w, 1),
         };
         Cell {
             address,

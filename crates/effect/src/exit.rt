@@ -1,8 +1,6 @@
-// The exits, each by its number (document 01, Machine), and that of an effect.
+// The exits, each by its number (document 01, Machine). What an instruction does is a Result: its effect, or the exit in which it ends.
 ghost use Rattle.std.specs.Prelude.{◌≡◌};
-ghost use Rattle.effect.specs.Exit.{exit_of, exit_number};
-
-use crate::effect::Effect;
+ghost use Rattle.effect.specs.Exit.{exit_number};
 
 #[derive(Clone, Copy, PartialEq, Eq)]
 pub enum Exit {
@@ -39,16 +37,4 @@ pub fn number(exit: Option<Exit>) -> u32
     ensures { result ≡ exit_number exit }
 {
     exit.map_or(0, u32::from)
-}
-
-impl Effect {
-    // None where the step completes.
-    pub fn exit(self) -> Option<Exit>
-        ensures { exit_number result ≡ exit_of self }
-    {
-        match self {
-            Effect::Exit(e) => Some(e),
-            _ => None,
-        }
-    }
 }

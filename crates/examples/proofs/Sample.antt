@@ -13,12 +13,12 @@ use Rattle.word.proofs.Memory.{load_store, set_every}
 use Rattle.class.specs.Class.{register_written}
 use Rattle.isa.specs.Reading.{fits, decode_of, read_fields, read_of}
 use Rattle.effect.specs.declared.effect.Effect.{Effect}
-use Rattle.effect.specs.declared.effect.Effect.TheVariants.{Exit}
+use Rattle.effect.specs.declared.exit.Exit.{Exit}
+use Rattle.std.specs.Prelude.{Option, None, Some, Result, Err}
 use Rattle.effect.specs.declared.effect.Touched.{Touched}
-use Rattle.effect.specs.declared.effect.Touched.TheVariants.{Nothing, Store}
-use Rattle.effect.specs.Touched.{touched_of, cell, cell_of}
+use Rattle.effect.specs.declared.effect.Touched.TheVariants.{Store}
+use Rattle.effect.specs.Touched.{cell, cell_of}
 use Rattle.effect.specs.declared.exit.Exit.TheVariants as E
-use Rattle.effect.specs.Exit.{exit_of}
 use Rattle.access.specs.Access.{address_of, reaches, store_if}
 use Rattle.arithmetic.specs.Arithmetic.{checked}
 use Rattle.branch.specs.Branch.{slot_of, region_of}
@@ -27,8 +27,8 @@ use Rattle.decision.specs.Decision.{decision_of}
 use Rattle.machine.specs.declared.state.State.{State}
 use Rattle.machine.specs.State.{is_lawful, refusal_of}
 use Rattle.parts.specs.Parts.{put_of}
-use Rattle.machine.specs.Apply.{Machine, apply_of}
-use Rattle.machine.specs.Step.{effect_of, effect_at, read_effect, Outcome, stepped, outcome, try_of, step_of}
+use Rattle.machine.specs.Apply.{Machine}
+use Rattle.machine.specs.Step.{effect_of, effect_at, read_effect, Outcome, stepped, outcome, tried_of, try_of, step_of}
 use Rattle.machine.specs.Run.{Course, course, later, repeat_of, run_of}
 use Rattle.machine.specs.Resume.{is_served, resumed_of, resume_of}
 use Rattle.layout.specs.Layout.{is_code_size, is_data_size, is_placed, is_apart}
@@ -81,14 +81,14 @@ load_code m c n i h =
 
 -- ---- one step
 
-abbrev effect_for : State → ℕ → ℕ → Effect
-effect_for s n w = cond (leb (s.special.pc + 4) n) (read_effect (read_of w) s n) (Exit E.Fetch)
+abbrev effect_for : State → ℕ → ℕ → Result Effect Exit
+effect_for s n w = cond (leb (s.special.pc + 4) n) (read_effect (read_of w) s n) (Err E.Fetch)
 
 -- the step of word w, with n bytes of memory
 abbrev step_for : State → List ℕ → ℕ → ℕ → Outcome
 step_for s m n w =
     cond (eqb (refusal_of s n) 0)
-    (record { number = exit_of (effect_for s n w); touched = touched_of (effect_for s n w); machine = apply_of (effect_for s n w) s m })
+    (tried_of (effect_for s n w) s m)
     (outcome (refusal_of s n) s m)
 
 step_for_law : (s : State) (m : List ℕ) (n w : ℕ) → length m ≡ n → load_of 4 m s.special.pc ≡ w → step_of s m ≡ step_for s m n w
@@ -103,7 +103,7 @@ storing m v = store_of 4 m 0x20000 v
 record Steps (m : List ℕ) : Type 0 where
   andi : step_of (sample_at 0x10000 0x10004 0xFFFFFFC0) m ≡ outcome 0 (sample_at 0x10004 0x10008 0) m
   or : step_of (sample_at 0x10004 0x10008 0) m ≡ outcome 0 (sample_at 0x10008 0x1000C 0x20000) m
-  sw : step_of (sample_at 0x10008 0x1000C 0x20000) m ≡ stepped 0 (Store 0x20000 4) (sample_at 0x1000C 0x10010 0x20000) (storing m 0x04030201)
+  sw : step_of (sample_at 0x10008 0x1000C 0x20000) m ≡ stepped 0 (Some (Store 0x20000 4)) (sample_at 0x1000C 0x10010 0x20000) (storing m 0x04030201)
   syscall : (x : ℕ) → step_of (sample_at 0x1000C 0x10010 x) m ≡ outcome 46 (sample_at 0x1000C 0x10010 x) m
   nop_4 : step_of (sample_at 0x10010 0x10014 5) m ≡ outcome 0 (sample_at 0x10014 0x10018 5) m
   nop_5 : step_of (sample_at 0x10014 0x10018 5) m ≡ outcome 0 (sample_at 0x10018 0x1001C 5) m
@@ -126,10 +126,10 @@ steps m c =
 
 -- a run of n steps at most leads to a course and tries steps
 data Trace : ℕ → State → List ℕ → Course → List Machine → Type 0 where
-  spent : {s : State} {m : List ℕ} → Trace 0 s m (course 0 0 Nothing s m) []
+  spent : {s : State} {m : List ℕ} → Trace 0 s m (course 0 0 None s m) []
   exits : {n k : ℕ} {s : State} {m : List ℕ} → step_of s m ≡ outcome k s m → eqb k 0 ≡ false
-      → Trace (suc n) s m (course k 0 Nothing s m) (at s m ∷ [])
-  goes : {n : ℕ} {y : Touched} {s t : State} {m x : List ℕ} {c : Course} {ts : List Machine} → step_of s m ≡ stepped 0 y t x → Trace n t x c ts
+      → Trace (suc n) s m (course k 0 None s m) (at s m ∷ [])
+  goes : {n : ℕ} {y : Option Touched} {s t : State} {m x : List ℕ} {c : Course} {ts : List Machine} → step_of s m ≡ stepped 0 y t x → Trace n t x c ts
       → Trace (suc n) s m (later 1 y c) (at s m ∷ ts)
 
 trace_repeat : {n : ℕ} {s : State} {m : List ℕ} {c : Course} {ts : List Machine} → Trace n s m c ts → repeat_of n s m ≡ c
@@ -171,7 +171,7 @@ module _ (s : State) (m : List ℕ) (z : refusal_of s (length m) ≡ 0) where
   does_run t = record { replies = rw z (ap ran_to (trace_repeat t)); trying = rw z (trace_tries t) }
 
   module _ {k : ℕ} (e : step_of s m ≡ outcome k s m) where
-    does_step : Does Step (lent s m) (reply (Stepped k (cell_of Nothing)) s m) (at s m ∷ [])
+    does_step : Does Step (lent s m) (reply (Stepped k (cell_of None)) s m) (at s m ∷ [])
     does_step = record { replies = rw e; trying = rw z }
 
     resumes : is_served k ≡ true → Does Resume (lent s m) (reply (Resumed 0) (resumed_of s) m) (at s m ∷ [])
@@ -202,8 +202,8 @@ module _ (m : List ℕ) where
       ∷ reply (Ran 0 3 (cell 0 0 0)) (sample_at 0x1001C 0x10000 5) changed
       ∷ []
 
-  abbrev tried_of : List Machine
-  tried_of =
+  abbrev tries_of : List Machine
+  tries_of =
       at (sample_at 0x10000 0x10004 0xFFFFFFC0) m
       ∷ at (sample_at 0x10004 0x10008 0) m
       ∷ at (sample_at 0x10008 0x1000C 0x20000) m
@@ -225,7 +225,7 @@ changes : (m : List ℕ) → Holds (stored m)
 unfolding stands is_exit is_data is_other may_write
 changes m c = record { replies = rw ((steps (stored m) c).syscall 0x20000, set-set); trying = refl }
 
-does_all : (m : List ℕ) → Holds m → DoesAll sample_events (lent sample_state m) (replies_of m) (tried_of m)
+does_all : (m : List ℕ) → Holds m → DoesAll sample_events (lent sample_state m) (replies_of m) (tries_of m)
 unfolding is_lawful refusal_of is_served slot_of
 does_all m c =
     let c₁ : Holds (stored m) = holds_store 4 m 0x20000 0x04030201 (omega arith) c in

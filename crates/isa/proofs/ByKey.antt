@@ -7,6 +7,7 @@ use native.Mathlib.Omega.{arith}
 use lib.Dec.{T, eqb, eqb→eq, T_not}
 use borrow.Author.Tests.{eq-eqb, ne_eqb, eqb-true, eqb-false}
 use Rattle.std.specs.Prelude.{Option, Some, None}
+use Rattle.std.specs.Bool.{then_some}
 use Rattle.word.specs.declared.field.Fields.{Fields}
 use Rattle.isa.specs.declared.kind.Kind.{Kind}
 use Rattle.isa.specs.declared.kind.Instruction.{Instruction}
@@ -21,7 +22,7 @@ use Rattle.isa.proofs.Drawings.{Matched, matched}
 
 -- ---- where the fields lead, by the opcode
 
-module _ (f : Fields) where
+module _ (f : Fields ℕ) where
   pub in_special : f.op ≡ 0 → key_in f ≡ 64 + f.funct
   unfolding key_in
   in_special e = rw (e)
@@ -44,7 +45,7 @@ module _ (f : Fields) where
 abbrev direct : ℕ → Bool
 direct n = not (eqb n 0) && (not (eqb n 1) && not (eqb n 16))
 
-at_opcode : (f : Fields) (n : ℕ) → T (direct n) → f.op ≡ n → key_in f ≡ n
+at_opcode : (f : Fields ℕ) (n : ℕ) → T (direct n) → f.op ≡ n → key_in f ≡ n
 at_opcode f n t e = in_opcode f (away 0 a.0) (away 1 b.0) (away 16 b.1) ∙ e
   where
     a : T (not (eqb n 0)) × T (not (eqb n 1) && not (eqb n 16))
@@ -60,7 +61,7 @@ at_opcode f n t e = in_opcode f (away 0 a.0) (away 1 b.0) (away 16 b.1) ∙ e
 abbrev free : Format → ℕ → Bool
 free t n = cond (eqb (table_of t) 0) (direct n) true
 
-module _ (n : ℕ) (f : Fields) where
+module _ (n : ℕ) (f : Fields ℕ) where
   special_key : T (eqb f.op 0) → T (eqb f.funct n) → key_in f ≡ 64 + n
   special_key p q = in_special f (eqb→eq f.op 0 p) ∙ ap (λ (x : ℕ). 64 + x) (eqb→eq f.funct n q)
 
@@ -88,7 +89,7 @@ module _ (n : ℕ) (f : Fields) where
   format_key ControlMove h m = cop0_key m.op m.rs
   format_key ExceptionReturn h m = cop0_key m.op m.rs
 
-pub fits_key : (k : Kind) (f : Fields) → T (fits_kind k f) → key_in f ≡ key_of k
+pub fits_key : (k : Kind) (f : Fields ℕ) → T (fits_kind k f) → key_in f ≡ key_of k
 fits_key k f t =
     format_key (row_of k).code f (row_of k).format (every_kind (λ j. free (row_of j).format (row_of j).code) tt k)
     (matched (drawing_for k) (row_of k).code f t)
@@ -100,7 +101,7 @@ not_so true h = absurd (h tt)
 not_so false h = refl
 
 -- no kind of the list fits fields that lead elsewhere
-absent : (ks : List Kind) (f : Fields) → T (fresh (key_in f) ks) → read_from ks f ≡ None
+absent : (ks : List Kind) (f : Fields ℕ) → T (fresh (key_in f) ks) → read_from ks f ≡ None
 absent [] f t = refl
 absent (k ∷ ks) f t =
     let h = both (not (eqb (key_of k) (key_in f))) (fresh (key_in f) ks) t in
@@ -108,11 +109,15 @@ absent (k ∷ ks) f t =
     λ s. T_not (eqb (key_of k) (key_in f)) h.0 (subst T (sym (eq-eqb (key_of k) (key_in f) (sym (fits_key k f s)))) tt) in
     rw (not_so (fits_kind k f) away) (absent ks f h.1)
 
-abbrev read_found : Found → Fields → Option Instruction
+abbrev read_found : Found → Fields ℕ → Option Instruction
 read_found (found k) f = read_as k f
 read_found nothing f = None
 
-by_lookup : (ks : List Kind) (f : Fields) → T (distinct ks) → read_from ks f ≡ read_found (lookup ks (key_in f)) f
+alone : (b : Bool) (i : Instruction) → cond b (Some i) None ≡ then_some b i
+alone true i = refl
+alone false i = refl
+
+by_lookup : (ks : List Kind) (f : Fields ℕ) → T (distinct ks) → read_from ks f ≡ read_found (lookup ks (key_in f)) f
 unfolding read_as
 by_lookup [] f t = refl
 by_lookup (k ∷ ks) f t =
@@ -124,12 +129,12 @@ by_lookup (k ∷ ks) f t =
         let lead : key_of k ≡ key_in f = eqb-true (key_of k) (key_in f) e in
         let none : read_from ks f ≡ None =
         absent ks f (subst (λ (x : ℕ). T (fresh x ks)) lead (both (fresh (key_of k) ks) (distinct ks) t).0) in
-        rw (none)
+        rw (none) (alone (fits_kind k f) (decode_of k (drawing_for k) f))
     at_head false e later =
         let away : T (fits_kind k f) → ⊥ = λ s. eqb-false (key_of k) (key_in f) e (sym (fits_key k f s)) in
         rw (not_so (fits_kind k f) away) later
 
-module _ (f : Fields) where
+module _ (f : Fields ℕ) where
   -- fields that lead to a kind are read as that kind
   pub read_found_law : (k : Kind) → key_in f ≡ key_of k → read_fields f ≡ read_as k f
   unfolding read_fields
@@ -147,12 +152,12 @@ module _ (f : Fields) where
 
 -- ---- what is read comes from a kind that fits
 
-pub record Came (f : Fields) (i : Instruction) : Type 0 where
+pub record Came (f : Fields ℕ) (i : Instruction) : Type 0 where
   pub kind : Kind
   pub fit : T (fits_kind kind f)
   pub same : decode_of kind (drawing_for kind) f ≡ i
 
-came_from : (ks : List Kind) (f : Fields) (i : Instruction) → read_from ks f ≡ Some i → Came f i
+came_from : (ks : List Kind) (f : Fields ℕ) (i : Instruction) → read_from ks f ≡ Some i → Came f i
 came_from [] f i e = absurd (let z : ◌≡◌ {A = ℕ} 0 1 = cc in omega arith)
 came_from (k ∷ ks) f i e = at_head (fits_kind k f) refl e (came_from ks f i)
   where
@@ -161,6 +166,6 @@ came_from (k ∷ ks) f i e = at_head (fits_kind k f) refl e (came_from ks f i)
     at_head true h p later = record { kind = k; fit = subst T (sym h) tt; same = cc }
     at_head false h p later = later p
 
-pub came : (f : Fields) (i : Instruction) → read_fields f ≡ Some i → Came f i
+pub came : (f : Fields ℕ) (i : Instruction) → read_fields f ≡ Some i → Came f i
 unfolding read_fields
 came f i e = came_from instructions f i e

@@ -45,7 +45,7 @@ abbrev pub key_of : Kind → ℕ
 key_of k = table_of (row_of k).format * 64 + (row_of k).code
 
 -- where the fields of a word lead
-unfoldable pub key_in : Fields → ℕ
+unfoldable pub key_in : Fields ℕ → ℕ
 key_in f = cond (eqb f.op 0) (64 + f.funct) (cond (eqb f.op 1) (128 + f.rt) (cond (eqb f.op 16) (192 + f.rs) f.op))
 
 pub data Found : Type 0 where

@@ -7,7 +7,7 @@ use borrow.Author.Tests.{eq-eqb}
 use Rattle.word.specs.declared.field.Fields.{Fields}
 use Rattle.isa.specs.declared.kind.Kind.{Kind}
 use Rattle.isa.specs.declared.kind.Instruction.{Instruction}
-use Rattle.isa.specs.declared.format.Drawing.{Drawing}
+use Rattle.isa.specs.Drawing.{Drawing}
 use Rattle.isa.specs.Table.{row_of}
 use Rattle.isa.specs.Reading.{accepts, fits, drawing_for}
 use Rattle.isa.specs.Writing.{operand_fits, rest_rs, legal}
@@ -49,7 +49,7 @@ drawing_sound k = sounds (drawing_for k) (row_of k).code (every_kind (λ k. soun
 
 -- ---- fields that fit a drawing
 
-pub record Matched (d : Drawing) (n : ℕ) (f : Fields) : Type 0 where
+pub record Matched (d : Drawing) (n : ℕ) (f : Fields ℕ) : Type 0 where
   pub op : T (accepts d.op n f.op)
   pub rs : T (accepts d.rs n f.rs)
   pub rt : T (accepts d.rt n f.rt)
@@ -57,7 +57,7 @@ pub record Matched (d : Drawing) (n : ℕ) (f : Fields) : Type 0 where
   pub shift : T (accepts d.shift n f.shift)
   pub funct : T (accepts d.funct n f.funct)
 
-pub matched : (d : Drawing) (n : ℕ) (f : Fields) → T (fits d n f) → Matched d n f
+pub matched : (d : Drawing) (n : ℕ) (f : Fields ℕ) → T (fits d n f) → Matched d n f
 unfolding fits
 matched d n f t =
     let a = both (accepts d.op n f.op) _ t in
@@ -67,7 +67,7 @@ matched d n f t =
     let g = both (accepts d.shift n f.shift) _ e.1 in
     record { op = a.0; rs = b.0; rt = c.0; rd = e.0; shift = g.0; funct = g.1 }
 
-pub matching : (d : Drawing) (n : ℕ) (f : Fields) → Matched d n f → fits d n f ≡ true
+pub matching : (d : Drawing) (n : ℕ) (f : Fields ℕ) → Matched d n f → fits d n f ≡ true
 unfolding fits
 matching d n f m =
     and_true (is_true (accepts d.op n f.op) m.op)

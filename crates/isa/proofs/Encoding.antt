@@ -7,10 +7,9 @@ use Rattle.std.specs.Prelude.{Some, None}
 use Rattle.word.specs.declared.field.Fields.{Fields}
 use Rattle.word.specs.Field.{join_of, Fit}
 use Rattle.isa.specs.declared.kind.Instruction.{Instruction}
-use Rattle.isa.specs.declared.format.Shape.{Shape}
-use Rattle.isa.specs.declared.format.Drawing.{Drawing}
-use Rattle.isa.specs.Table.{row_of, shape_in}
-use Rattle.isa.specs.Drawing.{drawing_of}
+use Rattle.isa.specs.declared.format.Format.{Format}
+use Rattle.isa.specs.Table.{row_of}
+use Rattle.isa.specs.Drawing.{Drawing, drawing_of}
 use Rattle.isa.specs.Reading.{drawing_for}
 use Rattle.isa.specs.Writing.{operand_fits, field_of, rest, rest_rs, encode_of, legal, write_of}
 use Rattle.isa.proofs.Drawings.{drawing_sound, legals}
@@ -21,7 +20,7 @@ pub encoding : (d : Drawing) (n : ℕ) (i : Instruction) {a b c e o s t r h f v 
     → o ≡ field_of d.op n 6 0 0 → s ≡ field_of d.rs n 5 e i.rs → t ≡ field_of d.rt n 5 c i.rt
     → r ≡ field_of d.rd n 5 b i.rd → h ≡ field_of d.shift n 5 a i.shift → f ≡ field_of d.funct n 6 i.value 0
     → v ≡ rest d.rs 5 e
-    → (◌≡◌ {A = Fields} (record { op = o; rs = s; rt = t; rd = r; shift = h; funct = f }) (encode_of d n i)) × (v ≡ rest_rs d i.value)
+    → (◌≡◌ {A = Fields ℕ} (record { op = o; rs = s; rt = t; rd = r; shift = h; funct = f }) (encode_of d n i)) × (v ≡ rest_rs d i.value)
 unfolding encode_of
 encoding d n i pa pb pc pe po ps pt pr ph pf pv = rw (po, ps, pt, pr, ph, pf, pv, pe, pc, pb, pa) (refl, refl)
 
@@ -31,14 +30,11 @@ pub fitting : (d : Drawing) (i : Instruction) {a b c e : Bool} {v : ℕ} → a �
 unfolding legal
 fitting d i p q r s t = rw (p, q, r, s, t)
 
-abbrev pub code : Shape → ℕ
-code r = r.code
+-- the drawing found for a kind's format
+pub drawing_found : (i : Instruction) {t : Format} {d : Drawing} → t ≡ (row_of i.kind).format → d ≡ drawing_of t → d ≡ drawing_for i.kind
+drawing_found i p q = q ∙ ap drawing_of p
 
--- the drawing found for a kind's shape
-pub drawing_found : (i : Instruction) {r : Shape} {d : Drawing} → r ≡ shape_in (row_of i.kind) → d ≡ drawing_of r.format → d ≡ drawing_for i.kind
-drawing_found i p q = q ∙ ap (λ (x : Shape). drawing_of x.format) p
-
-module _ (i : Instruction) {d : Drawing} {n : ℕ} {f : Fields} {b : Bool}
+module _ (i : Instruction) {d : Drawing} {n : ℕ} {f : Fields ℕ} {b : Bool}
     (pd : d ≡ drawing_for i.kind) (pn : n ≡ (row_of i.kind).code) (pf : f ≡ encode_of d n i) (pb : b ≡ legal d i) where
   found_fields : f ≡ encode_of (drawing_for i.kind) (row_of i.kind).code i
   found_fields = pf ∙ rw (pd, pn)

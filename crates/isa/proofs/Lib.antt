@@ -4,7 +4,6 @@ pub mod Roles
 pub mod Drawings
 pub mod ByKey
 pub mod Members
-pub mod Formats
 pub mod RoundTrip
 pub mod Encoding
 pub mod Numbers

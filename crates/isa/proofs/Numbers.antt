@@ -13,9 +13,8 @@ use Rattle.refusal.specs.declared.Refusal.TheVariants.{IllegalField}
 use Rattle.isa.specs.declared.kind.Alu.TheVariants.{Add}
 use Rattle.isa.specs.declared.kind.Kind.{Kind}
 use Rattle.isa.specs.declared.kind.Kind.TheVariants as K
-use Rattle.isa.specs.declared.format.Shape.{Shape}
 use Rattle.isa.specs.declared.row.Row.{Row}
-use Rattle.isa.specs.Table.{row_of, shaped, shape_in, instructions}
+use Rattle.isa.specs.Table.{row_of, instructions}
 use Rattle.isa.specs.Number.{number_of, numbered, kind_of, IsKindOf}
 use Rattle.isa.proofs.Codes.{key_of, every_kind, numbers}
 use Rattle.isa.proofs.Members.{below}
@@ -43,14 +42,12 @@ module _ (rows : List Row) (d : Row) (kinds : map (λ (r : Row). r.kind) rows �
   pub own_row : (k : Kind) → (get_or rows (number_of k - 1) d).kind ≡ k
   own_row k = row_kind (number_of k - 1) (place_lt k) ∙ placed k
 
-  abbrev shape : Row → Shape
-  shape r = shaped r.format r.code
-
-  pub own_shape : map shape rows ≡ map (λ (j : Kind). shape_in (row_of j)) instructions → (k : Kind) → shape (get_or rows (number_of k - 1) d) ≡ shape_in (row_of k)
-  own_shape e k =
-      sym (get_or-map shape rows (number_of k - 1) d (shape_in (row_of (K.Alu Add))) (inside (number_of k - 1) (place_lt k)))
-      ∙ rw (e) (get_or-map (λ (j : Kind). shape_in (row_of j)) instructions (number_of k - 1) (K.Alu Add) (shape_in (row_of (K.Alu Add))) (place_lt k))
-      ∙ ap (λ (j : Kind). shape_in (row_of j)) (placed k)
+  -- what a row holds of its kind
+  pub own : {A : Type 0} (g : Row → A) (h : Kind → A) → map g rows ≡ map h instructions → (k : Kind) → g (get_or rows (number_of k - 1) d) ≡ h k
+  own g h e k =
+      sym (get_or-map g rows (number_of k - 1) d (h (K.Alu Add)) (inside (number_of k - 1) (place_lt k)))
+      ∙ rw (e) (get_or-map h instructions (number_of k - 1) (K.Alu Add) (h (K.Alu Add)) (place_lt k))
+      ∙ ap h (placed k)
 
   abbrev same : Option Kind → Kind → Bool
   same None k = false

@@ -1,15 +1,18 @@
 -- One field, whatever its role: reading then writing gives the field back, and writing then reading the operand and the value.
 use mathlib.Core.Path.{◌≡◌, refl, sym}
-use mathlib.Core.Bool.{Bool, true, false, ◌||◌}
+use mathlib.Core.Bool.{Bool, true, false, cond}
 use Prim.Native.Nat.{ℕ, ◌^◌, ◌<◌, ◌≤◌}
 use native.Mathlib.Nat.{mod-lt, div-add-mod'}
 use native.Mathlib.Omega.{arith}
 use lib.Dec.{T, eqb, ltb, eqb→eq, eqb_refl, lt→ltb, ltb→lt}
 use lib.Arith.{digits_div, digits_mod}
 use lib.Pow.{pow_pos, pow_mono}
+use Rattle.std.specs.Prelude.{Some, None, is_some}
 use Rattle.isa.specs.declared.format.Role.{Role}
 use Rattle.isa.specs.declared.format.Role.TheVariants.{Operand, Control, Fixed, Code, Part}
-use Rattle.isa.specs.Reading.{is_control, accepts, operand, append}
+use Rattle.isa.specs.declared.control.Control.TheVariants.{BadAddress, Status, Cause, ReturnAddress}
+use Rattle.isa.specs.Control.{is_control}
+use Rattle.isa.specs.Reading.{accepts, operand, append}
 use Rattle.isa.specs.Writing.{operand_fits, field_of, rest}
 
 -- no operand stands in the field
@@ -35,7 +38,8 @@ is_true false t = absurd t
 control_lt : (x : ℕ) → T (is_control x) → x < 32
 control_lt x t = go (eqb x 8) (eqb x 12) (eqb x 13) (eqb x 14) (eqb→eq x 8) (eqb→eq x 12) (eqb→eq x 13) (eqb→eq x 14) t
   where
-    go : (a b c d : Bool) → (T a → x ≡ 8) → (T b → x ≡ 12) → (T c → x ≡ 13) → (T d → x ≡ 14) → T (a || (b || (c || d))) → x < 32
+    go : (a b c d : Bool) → (T a → x ≡ 8) → (T b → x ≡ 12) → (T c → x ≡ 13) → (T d → x ≡ 14)
+        → T (is_some (cond a (Some BadAddress) (cond b (Some Status) (cond c (Some Cause) (cond d (Some ReturnAddress) None))))) → x < 32
     go true b c d p q r s t = omega (arith, p tt)
     go false true c d p q r s t = omega (arith, q tt)
     go false false true d p q r s t = omega (arith, r tt)

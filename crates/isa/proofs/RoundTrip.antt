@@ -1,17 +1,18 @@
 -- Reading and writing undo each other: for every word below 2^32 and every instruction.
 use mathlib.Core.Path.{◌≡◌, refl, ap, sym, ◌∙◌, subst}
-use mathlib.Core.Bool.{Bool, true, false, cond}
+use mathlib.Core.Bool.{Bool, true, false}
 use Prim.Native.Nat.{ℕ, ◌^◌, ◌<◌}
 use native.Mathlib.Omega.{arith}
 use lib.Dec.{T}
-use Rattle.std.specs.Prelude.{Some, None}
+use Rattle.std.specs.Prelude.{Some}
+use Rattle.std.specs.Bool.{then_some}
 use Rattle.word.specs.declared.field.Fields.{Fields}
 use Rattle.word.specs.Field.{cut_of, join_of, Fit}
 use Rattle.word.proofs.Fields.{join_cut, cut_join, cut_fit}
 use Rattle.isa.specs.declared.kind.Kind.{Kind}
 use Rattle.isa.specs.declared.kind.Instruction.{Instruction}
 use Rattle.isa.specs.declared.format.Role.{Role}
-use Rattle.isa.specs.declared.format.Drawing.{Drawing}
+use Rattle.isa.specs.Drawing.{Drawing}
 use Rattle.isa.specs.Table.{row_of}
 use Rattle.isa.specs.Reading.{operand, append, value_of, decode_of, drawing_for, fits_kind, read_fields, read_of}
 use Rattle.isa.specs.Writing.{field_of, rest, rest_funct, rest_shift, rest_rd, rest_rt, rest_rs, encode_of, legal, write_of}
@@ -21,7 +22,7 @@ use Rattle.isa.proofs.ByKey.{Came, came, read_fits}
 
 -- ---- one drawing: fields read, then written
 
-module _ (k : Kind) (d : Drawing) (n : ℕ) (f : Fields) (h : Fit f) (m : Matched d n f) (z : Sound d n) where
+module _ (k : Kind) (d : Drawing) (n : ℕ) (f : Fields ℕ) (h : Fit f) (m : Matched d n f) (z : Sound d n) where
   back_funct : rest_funct d (value_of d f) ≡ append d.shift 5 (append d.rd 5 (append d.rt 5 (append d.rs 5 0 f.rs) f.rt) f.rd) f.shift
   back_funct = rest_back n 6 d.funct _ f.funct h.funct
 
@@ -108,14 +109,14 @@ module _ (d : Drawing) (n : ℕ) (i : Instruction) (z : Sound d n) (g : Legals d
 
 -- ---- the theorems
 
-written_back : (k : Kind) (f : Fields) → Fit f → T (fits_kind k f) → write_of (decode_of k (drawing_for k) f) ≡ Some (join_of f)
+written_back : (k : Kind) (f : Fields ℕ) → Fit f → T (fits_kind k f) → write_of (decode_of k (drawing_for k) f) ≡ Some (join_of f)
 unfolding write_of decode_of
 written_back k f h t =
     let d : Drawing = drawing_for k in
     let m : Matched d (row_of k).code f = matched d (row_of k).code f t in
     let z : Sound d (row_of k).code = drawing_sound k in
-    ap (λ (b : Bool). cond b (Some (join_of (encode_of d (row_of k).code (decode_of k d f)))) None) (decode_legal k d (row_of k).code f h m z)
-    ∙ ap (λ (x : Fields). Some (join_of x)) (encode_decode k d (row_of k).code f h m z)
+    ap (λ (b : Bool). then_some b (join_of (encode_of d (row_of k).code (decode_of k d f)))) (decode_legal k d (row_of k).code f h m z)
+    ∙ ap (λ (x : Fields ℕ). Some (join_of x)) (encode_decode k d (row_of k).code f h m z)
 
 -- what is read, written again, is the same word
 pub write_read : (w : ℕ) → w < 2 ^ 32 → (i : Instruction) → read_of w ≡ Some i → write_of i ≡ Some w
@@ -130,7 +131,7 @@ read_back i g w e =
     let d : Drawing = drawing_for i.kind in
     let n : ℕ = (row_of i.kind).code in
     let z : Sound d n = drawing_sound i.kind in
-    let f : Fields = encode_of d n i in
+    let f : Fields ℕ = encode_of d n i in
     let cuts : cut_of w ≡ f = ap cut_of (sym e) ∙ cut_join f (encode_fit d n i z g) in
     ap read_fields cuts
     ∙ read_fits f i.kind (subst T (sym (matching d n f (encode_matches d n i z g))) tt)
@@ -142,15 +143,15 @@ unfolding write_of
 read_write i w e = by_legal (legal (drawing_for i.kind) i) refl e
   where
     by_legal : (b : Bool) → legal (drawing_for i.kind) i ≡ b
-        → cond b (Some (join_of (encode_of (drawing_for i.kind) (row_of i.kind).code i))) None ≡ Some w → read_of w ≡ Some i
+        → then_some b (join_of (encode_of (drawing_for i.kind) (row_of i.kind).code i)) ≡ Some w → read_of w ≡ Some i
     by_legal true l p = read_back i (legals (drawing_for i.kind) i (subst T (sym l) tt)) w (cc)
     by_legal false l p = cc
 
-same_reading : (f : Fields) (j k : Kind) → T (fits_kind j f) → T (fits_kind k f) → decode_of j (drawing_for j) f ≡ decode_of k (drawing_for k) f
+same_reading : (f : Fields ℕ) (j k : Kind) → T (fits_kind j f) → T (fits_kind k f) → decode_of j (drawing_for j) f ≡ decode_of k (drawing_for k) f
 same_reading f j k s t = let e = read_fits f j s in let g = read_fits f k t in cc
 
 -- no word fits the drawings of two kinds
-pub unique : (f : Fields) (j k : Kind) → T (fits_kind j f) → T (fits_kind k f) → j ≡ k
+pub unique : (f : Fields ℕ) (j k : Kind) → T (fits_kind j f) → T (fits_kind k f) → j ≡ k
 unfolding decode_of
 unique f j k s t = ap (λ (i : Instruction). i.kind) (same_reading f j k s t)
 
@@ -166,7 +167,7 @@ pub record Operands (i : Instruction) : Type 0 where
   pub rd : i.rd < 2 ^ 5
   pub shift : i.shift < 2 ^ 5
 
-operands : (k : Kind) (d : Drawing) (f : Fields) → Fit f → Operands (decode_of k d f)
+operands : (k : Kind) (d : Drawing) (f : Fields ℕ) → Fit f → Operands (decode_of k d f)
 unfolding decode_of
 operands k d f h = record {
   rs = operand_lt d.rs f.rs h.rs;

@@ -3,7 +3,10 @@ use Rattle.isa.specs.declared.format.Format.{Format}
 use Rattle.isa.specs.declared.format.Format.TheVariants.{ThreeRegisters, ShiftAmount, TwoSources, OneSource, OneTarget, SourceTarget, SystemCode, Barrier, TrapCode, Condition, JumpIndex, Constant, BranchZero, UpperConstant, ControlMove, ExceptionReturn}
 use Rattle.isa.specs.declared.format.Role.{Role}
 use Rattle.isa.specs.declared.format.Role.TheVariants.{Operand, Control, Fixed, Code, Part}
-use Rattle.isa.specs.declared.format.Drawing.{Drawing}
+use Rattle.word.specs.declared.field.Fields.{Fields}
+
+abbrev pub Drawing : Type 0
+Drawing = Fields Role
 
 -- the fields from bit 31 down: opcode, rs, rt, rd, shift amount, function
 abbrev pub drawn : Role → Role → Role → Role → Role → Role → Drawing

@@ -1,5 +1,6 @@
 pub mod Table
 pub mod Drawing
+pub mod Control
 pub mod Reading
 pub mod Writing
 pub mod Number

@@ -22,7 +22,6 @@ use Rattle.isa.specs.declared.kind.Kind.{Kind}
 use Rattle.isa.specs.declared.kind.Kind.TheVariants as K
 use Rattle.isa.specs.declared.format.Format.{Format}
 use Rattle.isa.specs.declared.format.Format.TheVariants.{ThreeRegisters, ShiftAmount, TwoSources, OneSource, OneTarget, SourceTarget, SystemCode, Barrier, TrapCode, Condition, JumpIndex, Constant, BranchZero, UpperConstant, ControlMove, ExceptionReturn}
-use Rattle.isa.specs.declared.format.Shape.{Shape}
 
 pub record Row : Type 0 where
   pub number : ℕ
@@ -137,13 +136,6 @@ row_of (K.Access k) = access_row k
 row_of (K.Branch k) = branch_row k
 row_of (K.Trap k) = trap_row k
 row_of (K.System k) = system_row k
-
-abbrev pub shaped : Format → ℕ → Shape
-shaped f c = record { format = f; code = c }
-
--- what a reader or writer of words needs of a line
-abbrev pub shape_in : Row → Shape
-shape_in r = shaped r.format r.code
 
 -- all of them, in the order of section 1.2: the one with number n stands in place n, counted from 1
 abbrev pub instructions : List Kind

@@ -1,13 +1,15 @@
 -- What an instruction is written as: the word of its drawing, or refusal 18 (document 01, Refusal table).
-use Rattle.std.specs.Prelude.{ℕ, ◌/◌, ◌%◌, ◌^◌, Bool, cond, ◌&&◌, eqb, ltb, Option, Some, None}
+use Rattle.std.specs.Prelude.{ℕ, ◌/◌, ◌%◌, ◌^◌, Bool, ◌&&◌, eqb, ltb, Option, Some, None}
+use Rattle.std.specs.Bool.{then_some}
 use Rattle.word.specs.declared.field.Fields.{Fields}
 use Rattle.word.specs.Field.{join_of}
 use Rattle.isa.specs.declared.kind.Instruction.{Instruction}
 use Rattle.isa.specs.declared.format.Role.{Role}
 use Rattle.isa.specs.declared.format.Role.TheVariants.{Operand, Control, Fixed, Code, Part}
-use Rattle.isa.specs.declared.format.Drawing.{Drawing}
+use Rattle.isa.specs.Drawing.{Drawing}
 use Rattle.isa.specs.Table.{row_of}
-use Rattle.isa.specs.Reading.{is_control, drawing_for}
+use Rattle.isa.specs.Control.{is_control}
+use Rattle.isa.specs.Reading.{drawing_for}
 
 -- ---- one field: x is the instruction's operand of that name
 
@@ -52,7 +54,7 @@ rest_rt d v = rest d.rt 5 (rest_rd d v)
 abbrev pub rest_rs : Drawing → ℕ → ℕ
 rest_rs d v = rest d.rs 5 (rest_rt d v)
 
-unfoldable pub encode_of : Drawing → ℕ → Instruction → Fields
+unfoldable pub encode_of : Drawing → ℕ → Instruction → Fields ℕ
 encode_of d n i =
     record {
       op = field_of d.op n 6 0 0;
@@ -71,8 +73,7 @@ legal d i =
 -- ---- the writing
 
 unfoldable pub write_of : Instruction → Option ℕ
-write_of i =
-    cond (legal (drawing_for i.kind) i) (Some (join_of (encode_of (drawing_for i.kind) (row_of i.kind).code i))) None
+write_of i = then_some (legal (drawing_for i.kind) i) (join_of (encode_of (drawing_for i.kind) (row_of i.kind).code i))
 
 -- document 01's number for each case, and the word beside it: 0 with the word, or 18 with 0
 abbrev pub written_number : Option ℕ → ℕ

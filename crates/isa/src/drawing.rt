@@ -16,6 +16,7 @@ const BLANK: Role = Role::Fixed(0);
 
 const RETURN: Role = Role::Fixed(0b010000);
 
+#[inline(always)]
 fn drawn(op: Role, rs: Role, rt: Role, rd: Role, shift: Role, funct: Role) -> Drawing
     ensures { result ≡ D.drawn op rs rt rd shift funct }
 {
@@ -30,6 +31,7 @@ fn drawn(op: Role, rs: Role, rt: Role, rd: Role, shift: Role, funct: Role) -> Dr
 }
 
 impl Format {
+    #[inline(always)]
     pub fn drawing(self) -> Drawing
         ensures { result ≡ D.drawing_of self }
     {

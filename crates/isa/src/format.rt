@@ -1,4 +1,5 @@
 // The formats of instruction words, and what each field of a format holds.
+use word::field::Fields;
 
 #[derive(Clone, Copy)]
 pub enum Format {
@@ -20,13 +21,6 @@ pub enum Format {
     ExceptionReturn,
 }
 
-// An instruction's format, and the code that tells it from the others of the format.
-#[derive(Clone, Copy)]
-pub struct Shape {
-    pub format: Format,
-    pub code: u32,
-}
-
 // What a field of a format holds.
 #[derive(Clone, Copy)]
 pub enum Role {
@@ -42,13 +36,5 @@ pub enum Role {
     Part,
 }
 
-// A format's six fields.
-#[derive(Clone, Copy)]
-pub struct Drawing {
-    pub op: Role,
-    pub rs: Role,
-    pub rt: Role,
-    pub rd: Role,
-    pub shift: Role,
-    pub funct: Role,
-}
+// What each of a format's six fields holds.
+pub type Drawing = Fields<Role>;

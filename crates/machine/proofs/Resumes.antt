@@ -1,22 +1,25 @@
 -- The theorems about a resume: what it answers, and what it leaves and keeps.
 use Prim.Native.Nat.{ℕ, ◌^◌, ◌<◌}
-use mathlib.Core.Path.{◌≡◌, refl}
+use mathlib.Core.Path.{◌≡◌, refl, ap}
 use mathlib.Core.Bool.{true, false}
 use mathlib.Core.List.{List}
 use lib.ListN.{length}
 use native.Mathlib.Omega.{arith}
 use borrow.Author.Tests.{ne_eqb}
+use Rattle.std.specs.Prelude.{Ok, Err}
 use Rattle.word.proofs.Choice.{by_test, by_zero}
 use Rattle.effect.specs.declared.effect.Effect.{Effect}
-use Rattle.effect.specs.Exit.{exit_of}
+use Rattle.effect.specs.declared.exit.Exit.{Exit}
+use Rattle.effect.specs.Exit as X
 use Rattle.branch.specs.Branch.{slot_of}
 use Rattle.refusal.specs.declared.Refusal.{Refusal}
 use Rattle.refusal.specs.Refusal.{number_of}
 use Rattle.refusal.proofs.Numbers.{number_some}
 use Rattle.machine.specs.declared.state.State.{State}
 use Rattle.machine.specs.State.{is_lawful, refusal_of, Typed}
-use Rattle.machine.specs.Step.{effect_at, Outcome, outcome, try_of, step_of}
+use Rattle.machine.specs.Step.{effect_at, Outcome, outcome, step_of}
 use Rattle.machine.specs.Resume.{is_served, resumed_of, resume_of}
+use Rattle.machine.proofs.Steps.{step_exits, step_completes}
 use Rattle.machine.proofs.Valid.{Valid, valid, valid_lawful, advance_regular, linked_regular}
 
 -- ---- the answer, by what the code finds
@@ -29,18 +32,23 @@ module _ (s : State) (m : List ℕ) where
   pub refused_as : (e : Refusal) → number_of e ≡ refusal_of s (length m) → outcome (number_of e) s m ≡ resume_of s m
   refused_as e h = resume_refused (number_of e) h (number_some e)
 
-  module _ (z : refusal_of s (length m) ≡ 0) (e : Effect) (given : e ≡ effect_at s m) (k : ℕ) (exit : k ≡ exit_of e) where
-    step_number : (step_of s m).number ≡ k
-    unfolding step_of try_of
-    step_number = rw (exit, given, z)
+  module _ (z : refusal_of s (length m) ≡ 0) where
+    -- the step ends in an exit
+    module _ (x : Exit) (given : Err x ≡ effect_at s m) where
+      pub resume_served : (t : State) → t ≡ resumed_of s → is_served (X.number_of x) ≡ true → outcome 0 t m ≡ resume_of s m
+      unfolding resume_of
+      resume_served t j h = rw (z, ← step_exits s m z x given, h, j)
 
-    pub resume_served : (t : State) → t ≡ resumed_of s → is_served k ≡ true → outcome 0 t m ≡ resume_of s m
-    unfolding resume_of
-    resume_served t j h = rw (z, step_number, h, j)
+      pub resume_not_served : is_served (X.number_of x) ≡ false → outcome 19 s m ≡ resume_of s m
+      unfolding resume_of
+      resume_not_served h = rw (z, ← step_exits s m z x given, h)
 
-    pub resume_not_served : is_served k ≡ false → outcome 19 s m ≡ resume_of s m
-    unfolding resume_of
-    resume_not_served h = rw (z, step_number, h)
+    -- or completes
+    pub resume_completed : (e : Effect) → Ok e ≡ effect_at s m → outcome 19 s m ≡ resume_of s m
+    unfolding resume_of is_served
+    resume_completed e q =
+        let n : 0 ≡ (step_of s m).number = ap (λ o. o.number) (step_completes s m z e q _ _ _ refl) in
+        rw (z, ← n)
 
 -- ---- what it leaves and keeps
 

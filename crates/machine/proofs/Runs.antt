@@ -8,17 +8,16 @@ use native.Mathlib.Omega.{arith}
 use lib.Dec.{eqb}
 use lib.ListN.{length}
 use borrow.Author.Tests.{eqb-true, eqb-false, ne_eqb}
-use Rattle.std.specs.Prelude.{Option, None, Some}
+use Rattle.std.specs.Prelude.{Option, None, Ok, Err}
 use Rattle.word.proofs.Choice.{by_zero}
 use Rattle.effect.specs.declared.effect.Special.{Special}
 use Rattle.effect.specs.declared.effect.Effect.{Effect}
 use Rattle.effect.specs.declared.effect.Touched.{Touched}
-use Rattle.effect.specs.declared.effect.Touched.TheVariants.{Nothing}
 use Rattle.effect.specs.Touched.{touched_of, last_of}
 use Rattle.effect.proofs.Touched.{last_first, last_joined, last_some, last_none, Wide, last_wide}
-use Rattle.effect.specs.declared.exit.Exit as X
-use Rattle.effect.specs.Exit.{number_of, exit_number, exit_of}
-use Rattle.effect.proofs.Exits.{no_exit, some_exit}
+use Rattle.effect.specs.declared.exit.Exit.{Exit}
+use Rattle.effect.specs.Exit as X
+use Rattle.effect.proofs.Exits.{number_range}
 use Rattle.refusal.specs.declared.Refusal.{Refusal}
 use Rattle.refusal.specs.Refusal as R
 use Rattle.refusal.proofs.Numbers.{number_some}
@@ -27,59 +26,49 @@ use Rattle.machine.specs.State.{register_of, special_of, join_of, is_lawful, ref
 use Rattle.parts.specs.Parts.{parts}
 use Rattle.apply.specs.Apply.{applied_of}
 use Rattle.machine.specs.Apply.{joined, apply_of}
-use Rattle.machine.specs.Step.{effect_at, Outcome, stepped, outcome, step_of}
+use Rattle.machine.specs.Step.{effect_at, Outcome, outcome, step_of}
 use Rattle.machine.specs.Run.{Course, course, halted, later, repeat_of, run_of, then_of, after_of}
-use Rattle.machine.proofs.Steps.{step_refused, step_done, step_number, step_valid, step_lawful, step_typed, step_bytes, step_length, step_zero, step_wide, exit_leaves, not_refused, refused_alike, applied_exit, touched_exit}
+use Rattle.machine.proofs.Steps.{step_refused, step_exits, step_completes, step_number, step_valid, step_lawful, step_typed, step_bytes, step_length, step_zero, step_wide, exit_leaves, not_refused, refused_alike}
 use Rattle.machine.proofs.Valid.{Valid, valid, valid_lawful}
 
 -- no step more
-halted_later : (done : ℕ) (t : Touched) (o : Outcome) → record { number = o.number; steps = done; touched = t; machine = o.machine } ≡ later done t (halted o)
+halted_later : (done : ℕ) (t : Option Touched) (o : Outcome) → record { number = o.number; steps = done; touched = t; machine = o.machine } ≡ later done t (halted o)
 halted_later done t o = let z : done + 0 ≡ done = omega arith in rw z
 
 -- no step before
-later_zero : (r : Course) → later 0 Nothing r ≡ r
+later_zero : (r : Course) → later 0 None r ≡ r
 later_zero r = let z : 0 + r.steps ≡ r.steps = omega arith in rw (z, last_first r.touched)
 
 -- ---- a turn of the loop, by what the code finds
 
-module _ (s : State) (m : List ℕ) (z : refusal_of s (length m) ≡ 0) (e : Effect) (given : e ≡ effect_at s m) where
-  step_exits : (exit_of e ≡ 0 → ⊥) → outcome (exit_of e) s m ≡ step_of s m
-  step_exits n = step_done s m z (special_of s) refl e given s.registers (special_of s) m (sym (applied_exit e s.registers (special_of s) m n)) (exit_of e) refl Nothing (sym (touched_exit e n)) s refl
-
-  step_completes : (l : List ℕ) (d : Special) (x : List ℕ) → parts l d x ≡ applied_of e s.registers (special_of s) m → exit_of e ≡ 0 → stepped 0 (touched_of e) (join_of l d) x ≡ step_of s m
-  step_completes l d x a n = step_done s m z (special_of s) refl e given l d x a 0 (sym n) (touched_of e) refl (join_of l d) refl
-
+module _ (s : State) (m : List ℕ) (z : refusal_of s (length m) ≡ 0) where
   -- the next turn is not refused either
-  pub turn_lawful : (n : ℕ) (l : List ℕ) (d : Special) (x : List ℕ) → parts l d x ≡ applied_of e s.registers (special_of s) m → refusal_of s n ≡ 0 → is_lawful (apply_of e s m).state ≡ true → refusal_of (join_of l d) n ≡ 0
-  turn_lawful n l d x a y h = refused_alike s (join_of l d) n y (ap (λ o. is_lawful (joined o).state) a ∙ h)
+  pub turn_lawful : (e : Effect) (n : ℕ) (l : List ℕ) (d : Special) (x : List ℕ) → parts l d x ≡ applied_of e s.registers (special_of s) m → refusal_of s n ≡ 0 → is_lawful (apply_of e s m).state ≡ true → refusal_of (join_of l d) n ≡ 0
+  turn_lawful e n l d x a y h = refused_alike s (join_of l d) n y (ap (λ o. is_lawful (joined o).state) a ∙ h)
 
-  module _ (done b : ℕ) (h : done < b) (t : Touched) where
+  module _ (done b : ℕ) (h : done < b) (t : Option Touched) where
     left : b - done ≡ suc (b - (done + 1))
     left = omega arith
 
-    exits : (exit_of e ≡ 0 → ⊥) → course (exit_of e) done t s m ≡ later done t (repeat_of (b - done) s m)
+    pub turn_exits : (x : Exit) → Err x ≡ effect_at s m → course (X.number_of x) done t s m ≡ later done t (repeat_of (b - done) s m)
     unfolding repeat_of
-    exits n = rw (left, ← step_exits n, ne_eqb _ _ n) (halted_later done t (outcome (exit_of e) s m))
+    turn_exits x q =
+        let n : X.number_of x ≡ 0 → ⊥ = λ y. omega (arith, y, (number_range x).0) in
+        rw (left, ← step_exits s m z x q, ne_eqb _ _ n) (halted_later done t (outcome (X.number_of x) s m))
 
-    pub turn_exits : (o : Option X.Exit) → exit_number o ≡ exit_of e → (x : X.Exit) → o ≡ Some x → course (number_of x) done t s m ≡ later done t (repeat_of (b - done) s m)
-    turn_exits o q x h =
-        let k : number_of x ≡ exit_of e = rw h at q in
-        rw k (exits (λ z. some_exit o x h (q ∙ z)))
-
-    pub turn_completes : (l : List ℕ) (d : Special) (x : List ℕ) → parts l d x ≡ applied_of e s.registers (special_of s) m → (o : Option X.Exit) → exit_number o ≡ exit_of e → o ≡ None → later (done + 1) (last_of t (touched_of e)) (repeat_of (b - (done + 1)) (join_of l d) x) ≡ later done t (repeat_of (b - done) s m)
+    pub turn_completes : (e : Effect) → Ok e ≡ effect_at s m → (l : List ℕ) (d : Special) (x : List ℕ) → parts l d x ≡ applied_of e s.registers (special_of s) m → later (done + 1) (last_of t (touched_of e)) (repeat_of (b - (done + 1)) (join_of l d) x) ≡ later done t (repeat_of (b - done) s m)
     unfolding repeat_of
-    turn_completes l d x a o q h =
-        let n : exit_of e ≡ 0 = sym q ∙ no_exit o h in
+    turn_completes e q l d x a =
         let r = repeat_of (b - (done + 1)) (join_of l d) x in
         let p : done + 1 + r.steps ≡ done + (1 + r.steps) = omega arith in
-        rw (left, ← step_completes l d x a n, p, last_joined t (touched_of e) r.touched)
+        rw (left, ← step_completes s m z e q l d x a, p, last_joined t (touched_of e) r.touched)
 
-pub turns_begin : (s : State) (m : List ℕ) (b : ℕ) → later 0 Nothing (repeat_of (b - 0) s m) ≡ repeat_of b s m
+pub turns_begin : (s : State) (m : List ℕ) (b : ℕ) → later 0 None (repeat_of (b - 0) s m) ≡ repeat_of b s m
 turns_begin s m b = let z : b - 0 ≡ b = omega arith in rw z (later_zero (repeat_of b s m))
 
-pub turns_done : (s : State) (m : List ℕ) (done b : ℕ) (t : Touched) → b ≡ done → course 0 b t s m ≡ later done t (repeat_of (b - done) s m)
+pub turns_done : (s : State) (m : List ℕ) (done b : ℕ) (t : Option Touched) → b ≤ done → course 0 done t s m ≡ later done t (repeat_of (b - done) s m)
 unfolding repeat_of
-turns_done s m done b t h = let z : b - done ≡ 0 = omega (arith, h) in rw (z, h) (halted_later done t (outcome 0 s m))
+turns_done s m done b t h = let z : b - done ≡ 0 = omega arith in rw z (halted_later done t (outcome 0 s m))
 
 repeat_wide : (n : ℕ) (s : State) (m : List ℕ) → Wide (repeat_of n s m).touched
 unfolding repeat_of
@@ -95,11 +84,11 @@ run_wide n s m = by_zero (λ (r : Course). Wide r.touched) (refusal_of s (length
 
 -- the run, by what the code finds
 module _ (s : State) (m : List ℕ) (b : ℕ) where
-  pub run_refused : (k : ℕ) → k ≡ refusal_of s (length m) → (k ≡ 0 → ⊥) → course k 0 Nothing s m ≡ run_of s m b
+  pub run_refused : (k : ℕ) → k ≡ refusal_of s (length m) → (k ≡ 0 → ⊥) → course k 0 None s m ≡ run_of s m b
   unfolding run_of
   run_refused k e n = rw (← e, ne_eqb k 0 n)
 
-  pub refused_as : (e : Refusal) → R.number_of e ≡ refusal_of s (length m) → course (R.number_of e) 0 Nothing s m ≡ run_of s m b
+  pub refused_as : (e : Refusal) → R.number_of e ≡ refusal_of s (length m) → course (R.number_of e) 0 None s m ≡ run_of s m b
   refused_as e h = run_refused (R.number_of e) h (number_some e)
 
   pub run_repeats : refusal_of s (length m) ≡ 0 → repeat_of b s m ≡ run_of s m b
@@ -139,7 +128,7 @@ within : (n : ℕ) (r : Course) → Total n r → r.steps ≤ n
 within n r (inl (e, h)) = omega (arith, h)
 within n r (inr (e, h)) = omega (arith, h)
 
-counted : (n : ℕ) (t : Touched) (r : Course) → Total n r → Total (suc n) (later 1 t r)
+counted : (n : ℕ) (t : Option Touched) (r : Course) → Total n r → Total (suc n) (later 1 t r)
 counted n t r (inl (e, h)) = inl (e, omega arith)
 counted n t r (inr (e, h)) = inr (e, omega arith)
 
@@ -167,7 +156,7 @@ repeat_ends (suc n) s m =
 abbrev onward : Course → ℕ → Course
 onward r b = cond (eqb r.number 0) (later r.steps r.touched (repeat_of b r.machine.state r.machine.memory)) r
 
-later_onward : (y : Touched) (r : Course) (b : ℕ) → later 1 y (onward r b) ≡ onward (later 1 y r) b
+later_onward : (y : Option Touched) (r : Course) (b : ℕ) → later 1 y (onward r b) ≡ onward (later 1 y r) b
 later_onward y r b = split (eqb r.number 0) (repeat_of b r.machine.state r.machine.memory)
   where
     split : (t : Bool) (x : Course) → later 1 y (cond t (later r.steps r.touched x) r) ≡ cond t (later (1 + r.steps) (last_of y r.touched) x) (later 1 y r)
@@ -195,12 +184,12 @@ repeat_larger a b s m e h =
 
 module _ (s : State) (m : List ℕ) where
   -- by whether it is refused
-  by_refusal : (P : Course → Type 0) (n : ℕ) → (refusal_of s (length m) ≡ 0 → P (repeat_of n s m)) → ((k : ℕ) → k ≡ refusal_of s (length m) → (k ≡ 0 → ⊥) → P (course k 0 Nothing s m)) → P (run_of s m n)
+  by_refusal : (P : Course → Type 0) (n : ℕ) → (refusal_of s (length m) ≡ 0 → P (repeat_of n s m)) → ((k : ℕ) → k ≡ refusal_of s (length m) → (k ≡ 0 → ⊥) → P (course k 0 None s m)) → P (run_of s m n)
   unfolding run_of
   by_refusal P n p q = by_zero P (refusal_of s (length m)) p (q (refusal_of s (length m)) refl)
 
   -- budget 0 completes none and says still running
-  pub run_zero : refusal_of s (length m) ≡ 0 → run_of s m 0 ≡ course 0 0 Nothing s m
+  pub run_zero : refusal_of s (length m) ≡ 0 → run_of s m 0 ≡ course 0 0 None s m
   unfolding repeat_of
   run_zero z = sym (run_repeats s m 0 z)
 
@@ -273,7 +262,7 @@ module _ (s : State) (m : List ℕ) (t : Typed s) (b : Bytes m) where
   unfolding then_of
   onward_then r n z = rw (run_repeats r.machine.state r.machine.memory n z)
 
-  then_refused : (k n : ℕ) → (k ≡ 0 → ⊥) → course k 0 Nothing s m ≡ then_of (course k 0 Nothing s m) n
+  then_refused : (k n : ℕ) → (k ≡ 0 → ⊥) → course k 0 None s m ≡ then_of (course k 0 None s m) n
   unfolding then_of
   then_refused k n e = rw (ne_eqb k 0 e)
 
@@ -292,7 +281,7 @@ module _ (s : State) (m : List ℕ) (t : Typed s) (b : Bytes m) where
   unfolding repeat_of after_of
   repeat_more n z = rw (run_repeats (step_of s m).machine.state (step_of s m).machine.memory n (step_unrefused z))
 
-  after_refused : (k n : ℕ) → k ≡ refusal_of s (length m) → (k ≡ 0 → ⊥) → course k 0 Nothing s m ≡ after_of (step_of s m) n
+  after_refused : (k n : ℕ) → k ≡ refusal_of s (length m) → (k ≡ 0 → ⊥) → course k 0 None s m ≡ after_of (step_of s m) n
   unfolding after_of
   after_refused k n q e = rw (← step_refused s m k q e, ne_eqb k 0 e)
 
@@ -313,9 +302,9 @@ module _ (s : State) (m : List ℕ) (t : Typed s) (b : Bytes m) where
 
 -- ---- the last access of a run
 
-none_at_zero : (s : State) (m : List ℕ) → (run_of s m 0).touched ≡ Nothing
+none_at_zero : (s : State) (m : List ℕ) → (run_of s m 0).touched ≡ None
 unfolding run_of repeat_of
-none_at_zero s m = by_zero (λ (r : Course). r.touched ≡ Nothing) (refusal_of s (length m)) (λ _. refl) (λ _. refl)
+none_at_zero s m = by_zero (λ (r : Course). r.touched ≡ None) (refusal_of s (length m)) (λ _. refl) (λ _. refl)
 
 then_touched : (r : Course) (n : ℕ) → r.number ≡ 0 → (then_of r n).touched ≡ last_of r.touched (run_of r.machine.state r.machine.memory n).touched
 unfolding then_of
@@ -336,9 +325,9 @@ module _ (s : State) (m : List ℕ) (t : Typed s) (b : Bytes m) (n : ℕ) (runni
       ap (λ r. r.touched) (run_sum s m t b n 1) ∙ (then_touched (run_of s m n) 1 running ∙ ap (last_of (run_of s m n).touched) (ap (λ r. r.touched) more ∙ after_touched next e))
 
   -- with an access, which is then the last
-  pub run_touches : next.number ≡ 0 → (next.touched ≡ Nothing → ⊥) → (run_of s m (n + 1)).touched ≡ next.touched
+  pub run_touches : next.number ≡ 0 → (next.touched ≡ None → ⊥) → (run_of s m (n + 1)).touched ≡ next.touched
   run_touches e h = touched_next e ∙ last_some (run_of s m n).touched next.touched h
 
   -- without one, and the last stays
-  pub run_touches_none : next.number ≡ 0 → next.touched ≡ Nothing → (run_of s m (n + 1)).touched ≡ (run_of s m n).touched
+  pub run_touches_none : next.number ≡ 0 → next.touched ≡ None → (run_of s m (n + 1)).touched ≡ (run_of s m n).touched
   run_touches_none e h = touched_next e ∙ last_none (run_of s m n).touched next.touched h

@@ -8,61 +8,66 @@ use mathlib.Core.Logic.{⊎_elim}
 use native.Mathlib.Omega.{arith}
 use lib.ListN.{length}
 use borrow.Author.Tests.{le-leb}
-use Rattle.std.specs.Prelude.{Some}
+use Rattle.std.specs.Prelude.{Option, None, Some, Result, Ok, Err}
 use Rattle.word.specs.Bytes.{load_of}
 use Rattle.isa.specs.declared.kind.Access.{Access}
 use Rattle.isa.specs.declared.kind.Access.TheVariants.{Lb, Lbu, Sb, Lh, Lhu, Sh, Lw, Sw, Ll, Sc}
 use Rattle.isa.specs.declared.kind.Kind.TheVariants as K
 use Rattle.isa.specs.declared.kind.Instruction.{Instruction}
 use Rattle.isa.specs.Reading.{read_of}
-use Rattle.class.specs.Class.{access_class, class_of}
+use Rattle.class.specs.Class.{access_class, bytes_of, class_of}
 use Rattle.effect.specs.declared.effect.Effect.{Effect}
+use Rattle.effect.specs.declared.exit.Exit.{Exit}
 use Rattle.effect.specs.declared.effect.Touched.{Touched}
-use Rattle.effect.specs.declared.effect.Touched.TheVariants.{Nothing, Load, Store}
+use Rattle.effect.specs.declared.effect.Touched.TheVariants.{Load, Store}
 use Rattle.effect.specs.Touched.{touched_of}
 use Rattle.effect.proofs.Touched.{Wide, width_some}
-use Rattle.effect.specs.Exit.{exit_of}
 use Rattle.access.specs.Access.{address_of, load_if, store_if, conditional, access_of}
 use Rattle.decision.specs.Decision.{decision_of}
 use Rattle.machine.specs.declared.state.State.{State}
 use Rattle.machine.specs.State.{register_of, Bytes}
 use Rattle.machine.specs.Apply.{span, span_of, directed}
-use Rattle.machine.specs.Step.{effect_of, effect_at, instruction_access, access_at, try_of, step_of}
+use Rattle.machine.specs.Step.{effect_of, effect_at, instruction_access, access_at, tried_of, try_of, step_of}
 use Rattle.machine.proofs.Valid.{Valid}
-use Rattle.machine.proofs.Steps.{by_refusal, touched_exit, step_touches, step_wide}
+use Rattle.machine.proofs.Steps.{by_refusal, step_touches, step_wide}
 
 -- ---- the effect of an access
 
-load_touches : (t : Bool) (e : Effect) → exit_of (load_if t e) ≡ 0 → touched_of (load_if t e) ≡ touched_of e
-unfolding load_if
-load_touches true e z = refl
-load_touches false e z = let c : ⊥ = omega (arith, z) in absurd c
+module _ (s : State) (m : List ℕ) where
+  load_touches : (t : Bool) (e : Effect) → (tried_of (load_if t e) s m).number ≡ 0 → (tried_of (load_if t e) s m).touched ≡ touched_of e
+  unfolding load_if
+  load_touches true e z = refl
+  load_touches false e z = let c : ⊥ = omega (arith, z) in absurd c
 
-store_touches : (t : Bool) (e : Effect) → exit_of (store_if t e) ≡ 0 → touched_of (store_if t e) ≡ touched_of e
-unfolding store_if
-store_touches true e z = refl
-store_touches false e z = let c : ⊥ = omega (arith, z) in absurd c
+  store_touches : (t : Bool) (e : Effect) → (tried_of (store_if t e) s m).number ≡ 0 → (tried_of (store_if t e) s m).touched ≡ touched_of e
+  unfolding store_if
+  store_touches true e z = refl
+  store_touches false e z = let c : ⊥ = omega (arith, z) in absurd c
 
-linked_touches : (ll : Bool) (rt a b : ℕ) → ll ≡ true → touched_of (conditional ll rt a b) ≡ Store a 4
-unfolding conditional
-linked_touches ll rt a b h = rw h
+  linked_touches : (ll : Bool) (rt a b : ℕ) → ll ≡ true → touched_of (conditional ll rt a b) ≡ Some (Store a 4)
+  unfolding conditional
+  linked_touches ll rt a b h = rw h
 
-access_touches : (k : Access) (rt a b v : ℕ) (ll : Bool) (n : ℕ) → (k ≡ Sc → ll ≡ true) → exit_of (access_of k rt a b v ll n) ≡ 0 → touched_of (access_of k rt a b v ll n) ≡ directed (access_class k).store (span (address_of a v) (access_class k).width)
-access_touches Lb rt a b v ll n h z = load_touches _ _ z
-access_touches Lbu rt a b v ll n h z = load_touches _ _ z
-access_touches Sb rt a b v ll n h z = store_touches _ _ z
-access_touches Lh rt a b v ll n h z = load_touches _ _ z
-access_touches Lhu rt a b v ll n h z = load_touches _ _ z
-access_touches Sh rt a b v ll n h z = store_touches _ _ z
-access_touches Lw rt a b v ll n h z = load_touches _ _ z
-access_touches Sw rt a b v ll n h z = store_touches _ _ z
-access_touches Ll rt a b v ll n h z = load_touches _ _ z
-access_touches Sc rt a b v ll n h z = store_touches _ _ z ∙ linked_touches ll rt (address_of a v) b (h refl)
+  access_touches : (k : Access) (rt a b v : ℕ) (ll : Bool) (n : ℕ) → (k ≡ Sc → ll ≡ true) → (tried_of (access_of k rt a b v ll n) s m).number ≡ 0 → (tried_of (access_of k rt a b v ll n) s m).touched ≡ Some (directed (access_class k).store (span (address_of a v) (bytes_of (access_class k).width)))
+  access_touches Lb rt a b v ll n h z = load_touches _ _ z
+  access_touches Lbu rt a b v ll n h z = load_touches _ _ z
+  access_touches Sb rt a b v ll n h z = store_touches _ _ z
+  access_touches Lh rt a b v ll n h z = load_touches _ _ z
+  access_touches Lhu rt a b v ll n h z = load_touches _ _ z
+  access_touches Sh rt a b v ll n h z = store_touches _ _ z
+  access_touches Lw rt a b v ll n h z = load_touches _ _ z
+  access_touches Sw rt a b v ll n h z = store_touches _ _ z
+  access_touches Ll rt a b v ll n h z = load_touches _ _ z
+  access_touches Sc rt a b v ll n h z = store_touches _ _ z ∙ linked_touches ll rt (address_of a v) b (h refl)
 
-unstored : (t ll : Bool) (rt a b : ℕ) → ll ≡ false → touched_of (store_if t (conditional ll rt a b)) ≡ Nothing
-unfolding store_if conditional
-unstored true ll rt a b h = rw h
-unstored false ll rt a b h = refl
+  unstored : (t ll : Bool) (rt a b : ℕ) → ll ≡ false → (tried_of (store_if t (conditional ll rt a b)) s m).touched ≡ None
+  unfolding store_if conditional
+  unstored true ll rt a b h = rw h
+  unstored false ll rt a b h = refl
+
+  exit_untouched : (d : Result Effect Exit) → ((tried_of d s m).number ≡ 0 → ⊥) → (tried_of d s m).touched ≡ None
+  exit_untouched (Ok e) n = absurd (n refl)
+  exit_untouched (Err x) n = refl
 
 -- ---- the step
 
@@ -81,35 +86,35 @@ module _ (s : State) (m : List ℕ) (i : Instruction) (fetched : s.special.pc + 
     accessed = rw isAccess
 
     -- a step that completes touches the whole access, in the direction of the instruction's class; but an SC needs the LL bit
-    pub touched_access : (k ≡ Sc → s.special.ll ≡ true) → (step_of s m).number ≡ 0 → (step_of s m).touched ≡ directed (class_of i.kind).store (access_at s m)
+    pub touched_access : (k ≡ Sc → s.special.ll ≡ true) → (step_of s m).number ≡ 0 → (step_of s m).touched ≡ Some (directed (class_of i.kind).store (access_at s m))
     unfolding try_of
     touched_access h =
-        by_refusal (λ o. o.number ≡ 0 → o.touched ≡ directed (class_of i.kind).store (access_at s m)) s m
-        (λ _. rw (access_is, isAccess, effect_is, accessed) (access_touches k i.rt _ _ i.value s.special.ll (length m) h))
+        by_refusal (λ o. o.number ≡ 0 → o.touched ≡ Some (directed (class_of i.kind).store (access_at s m))) s m
+        (λ _. rw (access_is, isAccess, effect_is, accessed) (access_touches s m k i.rt _ _ i.value s.special.ll (length m) h))
         (λ k n z. absurd (n z))
 
     -- an SC without the LL bit touches nothing
-    pub touched_unstored : k ≡ Sc → s.special.ll ≡ false → (step_of s m).touched ≡ Nothing
+    pub touched_unstored : k ≡ Sc → s.special.ll ≡ false → (step_of s m).touched ≡ None
     unfolding try_of
     touched_unstored e h =
-        by_refusal (λ o. o.touched ≡ Nothing) s m
-        (λ _. rw (effect_is, accessed, e) (unstored _ s.special.ll _ _ _ h))
+        by_refusal (λ o. o.touched ≡ None) s m
+        (λ _. rw (effect_is, accessed, e) (unstored s m _ s.special.ll _ _ _ h))
         (λ k n. refl)
 
 -- an exit and a refusal touch nothing
-pub touched_exits : (s : State) (m : List ℕ) → ((step_of s m).number ≡ 0 → ⊥) → (step_of s m).touched ≡ Nothing
+pub touched_exits : (s : State) (m : List ℕ) → ((step_of s m).number ≡ 0 → ⊥) → (step_of s m).touched ≡ None
 unfolding try_of
 touched_exits s m =
-    by_refusal (λ o. (o.number ≡ 0 → ⊥) → o.touched ≡ Nothing) s m
-    (λ _. touched_exit (effect_at s m))
+    by_refusal (λ o. (o.number ≡ 0 → ⊥) → o.touched ≡ None) s m
+    (λ _. exit_untouched s m (effect_at s m))
     (λ k n _. refl)
 
-narrow : (t : Touched) → Wide t → (span_of t).width ≡ 0 → t ≡ Nothing
-narrow Nothing w z = refl
-narrow (Load a x) w z = absurd (width_some x w z)
-narrow (Store a x) w z = absurd (width_some x w z)
+narrow : (t : Option Touched) → Wide t → (span_of t).width ≡ 0 → t ≡ None
+narrow None w z = refl
+narrow (Some (Load a x)) w z = absurd (width_some x w z)
+narrow (Some (Store a x)) w z = absurd (width_some x w z)
 
 -- and neither does a step without an access
-pub touched_nothing : (s : State) (m : List ℕ) → Valid s → Bytes m → (access_at s m).width ≡ 0 → (step_of s m).touched ≡ Nothing
+pub touched_nothing : (s : State) (m : List ℕ) → Valid s → Bytes m → (access_at s m).width ≡ 0 → (step_of s m).touched ≡ None
 touched_nothing s m v b z =
     ⊎_elim (λ e. e) (λ e. narrow (step_of s m).touched (step_wide s m) (ap (λ x. x.width) e ∙ z)) (step_touches s m v b)

@@ -8,6 +8,8 @@ use lib.Dec.{eqb}
 use lib.ListN.{length, set, length-set}
 use lib.Seq.{get_or-set_other}
 use borrow.Author.Tests.{eqb-true, eqb-false, ltb-true, lt-ltb}
+use Rattle.std.specs.Prelude.{Result, Ok, Err}
+use Rattle.std.specs.Result.{IfOk}
 use Rattle.word.specs.Number.{signed_of, extend_of}
 use Rattle.word.specs.Bytes.{load_of}
 use Rattle.word.proofs.Choice.{by_test, both}
@@ -15,7 +17,8 @@ use Rattle.word.proofs.Numbers.{wrap_below}
 use Rattle.word.proofs.Memory.{load_lt, set_every}
 use Rattle.effect.specs.declared.effect.Special.{Special}
 use Rattle.effect.specs.declared.effect.Effect.{Effect}
-use Rattle.effect.specs.declared.effect.Effect.TheVariants.{Exit, Advance, Write, Pair, Jump, Link, LoadByte, LoadHalf, LoadWord, LoadLinked, StoreByte, StoreHalf, StoreWord, StoreLinked, Control, Return}
+use Rattle.effect.specs.declared.effect.Effect.TheVariants.{Advance, Write, Pair, Jump, Link, LoadByte, LoadHalf, LoadWord, LoadLinked, StoreByte, StoreHalf, StoreWord, StoreLinked, Control, Return}
+use Rattle.effect.specs.declared.exit.Exit.{Exit}
 use Rattle.effect.specs.Sound.{Sound, Performable, Word, Aligned, Regular}
 use Rattle.branch.proofs.Targets.{slot_aligned}
 use Rattle.machine.specs.declared.state.State.{State}
@@ -162,8 +165,7 @@ loaded_below k x false h = h
 
 -- the other registers need nothing of the 32 and of memory
 module _ (l : List ℕ) {c : Special} (m : List ℕ) (q : Regular c) where
-  applied_regular : {n at w : ℕ} (e : Effect) → Sound e n at w → Regular (applied_of e l c m).special
-  applied_regular (Exit e) k = q
+  applied_regular : {n at w : ℕ} (e : Effect) → Sound (Ok e) n at w → Regular (applied_of e l c m).special
   applied_regular Advance k = advance_regular q
   applied_regular (Write r v) k = advance_regular q
   applied_regular (Pair h o) k = pair_regular (advance_regular q) k.keeps.0 k.keeps.1
@@ -193,8 +195,7 @@ module _ {l : List ℕ} (c : Special) (m : List ℕ) (g : Registers l) (b : Byte
   written : (r : ℕ) {v : ℕ} → Word v → Registers (put_of l r v)
   written r {v} h = put_registers l r v g h
 
-  applied_registers : {n at w : ℕ} (e : Effect) → Sound e n at w → Registers (applied_of e l c m).registers
-  applied_registers (Exit e) k = g
+  applied_registers : {n at w : ℕ} (e : Effect) → Sound (Ok e) n at w → Registers (applied_of e l c m).registers
   applied_registers Advance k = g
   applied_registers (Write r v) k = written r k.keeps.1
   applied_registers (Pair h o) k = g
@@ -211,7 +212,7 @@ module _ {l : List ℕ} (c : Special) (m : List ℕ) (g : Registers l) (b : Byte
   applied_registers (Control r v) k = g
   applied_registers (Return s) k = g
 
-pub apply_valid : {n at w : ℕ} (e : Effect) (s : State) (m : List ℕ) → Sound e n at w → Valid s → Bytes m → Valid (apply_of e s m).state
+pub apply_valid : {n at w : ℕ} (e : Effect) (s : State) (m : List ℕ) → Sound (Ok e) n at w → Valid s → Bytes m → Valid (apply_of e s m).state
 apply_valid e s m k v b =
     record {
       registers = applied_registers (special_of s) m v.registers b e k;
@@ -220,7 +221,6 @@ apply_valid e s m k v b =
 
 -- register 0 stays what it was
 pub apply_zero : (e : Effect) (s : State) (m : List ℕ) → register_of (apply_of e s m).state.registers 0 ≡ register_of s.registers 0
-apply_zero (Exit e) s m = refl
 apply_zero Advance s m = refl
 apply_zero (Write r v) s m = put_zero s.registers r v
 apply_zero (Pair h l) s m = refl
@@ -242,4 +242,12 @@ pub apply_lawful : (e : Effect) (s : State) (m : List ℕ) → Performable e (le
 apply_lawful e s m p w h =
     lawful (apply_of e s m).state
     (apply_zero e s m ∙ first s h)
-    (applied_regular s.registers m (regular s.registers (special_of s) w h) e p.sound)
+    (applied_regular s.registers m (regular s.registers (special_of s) w h) e (record { keeps = p.keeps }))
+
+-- and so does what is decided, where that is an effect
+pub performs : {at w : ℕ} {c : Result Effect Exit} (s : State) (m : List ℕ) (d : Result Effect Exit) → d ≡ c → Sound c (length m) at w → Words (special_of s) → is_lawful s ≡ true → IfOk d (λ e. Performable e (length m) × (is_lawful (apply_of e s m).state ≡ true))
+performs {at} {w} s m (Ok e) q k t h =
+    let j : Sound (Ok e) (length m) at w = rw q k in
+    let p : Performable e (length m) = record { at = at; width = w; keeps = j.keeps } in
+    (p, apply_lawful e s m p t h)
+performs s m (Err x) q k t h = tt

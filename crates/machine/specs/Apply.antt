@@ -1,9 +1,8 @@
 -- An effect carried out on state and memory, and the bytes that it stores.
-use Rattle.std.specs.Prelude.{ℕ, ◌+◌, ◌≤◌, ◌<◌, Bool, true, false, List, ◌⊎◌}
+use Rattle.std.specs.Prelude.{ℕ, ◌+◌, ◌≤◌, ◌<◌, Bool, true, false, List, Option, None, Some, ◌⊎◌}
 use Rattle.effect.specs.declared.effect.Effect.{Effect}
 use Rattle.effect.specs.declared.effect.Touched.{Touched}
-use Rattle.effect.specs.declared.effect.Touched.TheVariants.{Nothing, Load, Store}
-use Rattle.effect.specs.Touched.{touched_of}
+use Rattle.effect.specs.declared.effect.Touched.TheVariants.{Load, Store}
 use Rattle.parts.specs.Parts.{Parts}
 use Rattle.apply.specs.Apply.{applied_of}
 use Rattle.machine.specs.declared.state.State.{State}
@@ -34,19 +33,16 @@ directed false x = Load x.at x.width
 directed true x = Store x.at x.width
 
 -- the bytes that an access touches
-abbrev pub span_of : Touched → Span
-span_of Nothing = span 0 0
-span_of (Load a w) = span a w
-span_of (Store a w) = span a w
+abbrev pub span_of : Option Touched → Span
+span_of None = span 0 0
+span_of (Some (Load a w)) = span a w
+span_of (Some (Store a w)) = span a w
 
 -- those that it stores
-abbrev pub stored_in : Touched → Span
-stored_in Nothing = span 0 0
-stored_in (Load a w) = span 0 0
-stored_in (Store a w) = span a w
-
-abbrev pub stored_of : Effect → Span
-stored_of e = stored_in (touched_of e)
+abbrev pub stored_in : Option Touched → Span
+stored_in None = span 0 0
+stored_in (Some (Load a w)) = span 0 0
+stored_in (Some (Store a w)) = span a w
 
 -- byte i is none of them
 abbrev pub Outside : ℕ → Span → Type 0

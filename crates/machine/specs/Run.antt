@@ -1,7 +1,6 @@
 -- A run: the step repeated until the budget is spent or a step does not complete (document 01, Machine).
-use Rattle.std.specs.Prelude.{ℕ, zero, suc, ◌+◌, cond, List, eqb, length, Result, Ok, Err}
+use Rattle.std.specs.Prelude.{ℕ, zero, suc, ◌+◌, cond, List, eqb, length, Option, None, Result, Ok, Err}
 use Rattle.effect.specs.declared.effect.Touched.{Touched}
-use Rattle.effect.specs.declared.effect.Touched.TheVariants.{Nothing}
 use Rattle.effect.specs.Touched.{last_of}
 use Rattle.effect.specs.Exit.{exit_number}
 use Rattle.refusal.specs.declared.Refusal.{Refusal}
@@ -17,18 +16,18 @@ use Rattle.machine.specs.Step.{Outcome, outcome, step_of}
 pub record Course : Type 0 where
   pub number : ℕ
   pub steps : ℕ
-  pub touched : Touched
+  pub touched : Option Touched
   pub machine : Machine
 
-abbrev pub course : ℕ → ℕ → Touched → State → List ℕ → Course
+abbrev pub course : ℕ → ℕ → Option Touched → State → List ℕ → Course
 course k n t s m = record { number = k; steps = n; touched = t; machine = record { state = s; memory = m } }
 
 -- no step completed
 abbrev pub halted : Outcome → Course
-halted o = record { number = o.number; steps = 0; touched = Nothing; machine = o.machine }
+halted o = record { number = o.number; steps = 0; touched = None; machine = o.machine }
 
 -- the same, begun n steps earlier; t is the last access among these, and counts where there is none after it
-abbrev pub later : ℕ → Touched → Course → Course
+abbrev pub later : ℕ → Option Touched → Course → Course
 later n t r = record { number = r.number; steps = n + r.steps; touched = last_of t r.touched; machine = r.machine }
 
 -- the exiting step isn't counted
@@ -61,4 +60,4 @@ done_of r m = course (exit_number r.exit) r.steps r.touched r.state m
 -- a refusal leaves the state that it refuses
 abbrev pub answer_of : State → Result Ran Refusal → List ℕ → Course
 answer_of s (Ok r) m = done_of r m
-answer_of s (Err e) m = course (number_of e) 0 Nothing s m
+answer_of s (Err e) m = course (number_of e) 0 None s m

@@ -1,6 +1,6 @@
 // A resume after an exit: the state goes on behind the instruction that exited.
 ghost use Rattle.std.specs.Prelude.{◌≡◌};
-ghost use Rattle.effect.specs.Exit.{exit_number};
+ghost use Rattle.effect.specs.Exit.{number_of};
 ghost use Rattle.machine.specs.Resume as Spec;
 
 use crate::state::State;
@@ -8,12 +8,12 @@ use effect::exit::Exit;
 use refusal::Refusal;
 
 #[tactic(auto, unfolding(crate::specs::Resume::is_served))]
-fn is_served(exit: Option<Exit>) -> bool
-    ensures { result ≡ Spec.is_served (exit_number exit) }
+fn is_served(exit: Exit) -> bool
+    ensures { result ≡ Spec.is_served (number_of exit) }
 {
     matches!(
         exit,
-        Some(Exit::IntegerOverflow | Exit::SystemCall | Exit::Breakpoint | Exit::Trap)
+        Exit::IntegerOverflow | Exit::SystemCall | Exit::Breakpoint | Exit::Trap
     )
 }
 
@@ -27,17 +27,15 @@ impl State {
     }
 
     // The state that goes on.
-    #[tactic(auto, using(crate::proofs::Resumes::refused_as, crate::proofs::Resumes::resume_served, crate::proofs::Resumes::resume_not_served))]
+    #[tactic(auto, using(crate::proofs::Resumes::refused_as, crate::proofs::Resumes::resume_served, crate::proofs::Resumes::resume_not_served, crate::proofs::Resumes::resume_completed))]
     pub fn resume(self, memory: &[u8]) -> Result<State, Refusal>
         ensures { Spec.answer_of self result memory.now ≡ Spec.resume_of self memory.now }
     {
         self.refusal(memory.len())?;
         let registers = self.registers;
-        let e = crate::step::effect_at(self.special, &registers, memory);
-        if is_served(e.exit()) {
-            Ok(self.resumed())
-        } else {
-            Err(Refusal::NotServed)
+        match crate::step::effect_at(self.special, &registers, memory) {
+            Err(exit) if is_served(exit) => Ok(self.resumed()),
+            _ => Err(Refusal::NotServed),
         }
     }
 }

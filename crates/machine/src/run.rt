@@ -14,7 +14,7 @@ use refusal::Refusal;
 pub struct Ran {
     pub exit: Option<Exit>,
     pub steps: u32,
-    pub touched: Touched,
+    pub touched: Option<Touched>,
     pub state: State,
 }
 
@@ -23,27 +23,29 @@ pub struct Ran {
 struct Course {
     exit: Option<Exit>,
     steps: u32,
-    touched: Touched,
+    touched: Option<Touched>,
     special: Special,
 }
 
+// The loop stands apart, on lent registers: inside run_unrefused it takes 20 to 30 % more time.
 fn repeat(c: Special, registers: &mut [u32; 32], memory: &mut [u8], budget: u32) -> Course
     requires { refusal_of (join_of registers.old c) (length memory.old) ≡ 0 }
     ensures { Spec.course (exit_number result.exit) result.steps result.touched (join_of registers.new result.special) memory.new ≡ Spec.repeat_of budget (join_of registers.old c) memory.old }
 {
     let mut special = c;
-    let mut touched = Touched::Nothing;
+    let mut touched = None;
     for steps in 0..budget {
-        let e = crate::step::effect_at(special, registers, memory);
-        if let Some(exit) = e.exit() {
-            return Course {
-                exit: Some(exit),
-                steps,
-                touched,
-                special,
-            };
-        }
-        special = apply::apply(e, special, registers, memory, &mut touched);
+        special = match crate::step::effect_at(special, registers, memory) {
+            Ok(e) => apply::apply(e, special, registers, memory, &mut touched),
+            Err(exit) => {
+                return Course {
+                    exit: Some(exit),
+                    steps,
+                    touched,
+                    special,
+                };
+            }
+        };
     }
     Course {
         exit: None,

@@ -19,23 +19,18 @@ impl State {
     fn is_lawful(self) -> bool
         ensures { result ≡ Spec.is_lawful self }
     {
-        (self.registers[0] == 0)
-            & ((self.special.pc % 4 == 0)
-                & ((self.special.next_pc % 4 == 0) & (self.special.status < 8192)))
+        self.registers[0] == 0
+            && self.special.pc % 4 == 0
+            && self.special.next_pc % 4 == 0
+            && self.special.status < 8192
     }
 
     // The refusals that step, run and resume try first.
-    #[tactic(auto, using(crate::proofs::Steps::too_long, crate::proofs::Steps::no_refusal, crate::proofs::Steps::not_lawful))]
+    #[tactic(auto, using(crate::proofs::Steps::no_refusal, crate::proofs::Steps::not_lawful))]
     pub fn refusal(self, length: usize) -> Result<(), Refusal>
         ensures { refused_number result ≡ Spec.refusal_of self length }
     {
-        if bytes::LONGEST < length {
-            return Err(Refusal::MemoryTooLong);
-        }
-        if self.is_lawful() {
-            Ok(())
-        } else {
-            Err(Refusal::State)
-        }
+        Refusal::MemoryTooLong.when(bytes::LONGEST < length)?;
+        Refusal::State.when(!self.is_lawful())
     }
 }

@@ -1,5 +1,6 @@
 // One step: fetched, read, decided, carried out.
 ghost use Rattle.std.specs.Prelude.{◌≡◌, true, ◌<◌, ◌^◌, length};
+ghost use Rattle.std.specs.Result.{IfOk};
 ghost use Rattle.effect.specs.Sound.{Performable};
 ghost use Rattle.machine.specs.State.{register_of, join_of, is_lawful, refusal_of};
 ghost use Rattle.machine.specs.Apply.{apply_of};
@@ -14,7 +15,7 @@ use refusal::Refusal;
 #[derive(Clone, Copy)]
 pub struct Stepped {
     pub exit: Option<Exit>,
-    pub touched: Touched,
+    pub touched: Option<Touched>,
     pub state: State,
 }
 
@@ -25,26 +26,20 @@ fn register(registers: &[u32; 32], r: u32) -> u32
     registers[r as usize]
 }
 
-// What the step of a state does; where the state is lawful, that can be carried out and leads to a lawful state.
-pub(crate) fn effect_at(c: Special, registers: &[u32; 32], memory: &[u8]) -> Effect
-    ensures { (result ≡ Spec.effect_at (join_of registers.now c) memory.now) × (is_lawful (join_of registers.now c) ≡ true → Performable result (length memory.now) × (is_lawful (apply_of result (join_of registers.now c) memory.now).state ≡ true)) }
+// What the step of a state does, or the exit in which it ends; where the state is lawful, an effect can be carried out and leads to a lawful state.
+pub(crate) fn effect_at(c: Special, registers: &[u32; 32], memory: &[u8]) -> Result<Effect, Exit>
+    ensures { (result ≡ Spec.effect_at (join_of registers.now c) memory.now) × (is_lawful (join_of registers.now c) ≡ true → IfOk result (λ e. Performable e (length memory.now) × (is_lawful (apply_of e (join_of registers.now c) memory.now).state ≡ true))) }
 {
     let at = c.pc as usize;
     let n = memory.len();
     if n < at + 4 {
-        return Effect::Exit(Exit::Fetch);
+        return Err(Exit::Fetch);
     }
     let w = word::bytes::load::<4>(memory, at);
-    match reader::read(w) {
-        None => Effect::Exit(Exit::NoInstruction),
-        Some(i) => decision::decide(
-            i,
-            register(registers, i.rs),
-            register(registers, i.rt),
-            c,
-            n,
-        ),
-    }
+    let i = reader::read(w).ok_or(Exit::NoInstruction)?;
+    let a = register(registers, i.rs);
+    let b = register(registers, i.rt);
+    decision::decide(i, a, b, c, n)
 }
 
 impl State {
@@ -54,13 +49,21 @@ impl State {
         ensures { Spec.done_of result memory.new ≡ Spec.step_of self memory.old }
     {
         let mut registers = self.registers;
-        let e = effect_at(self.special, &registers, memory);
-        let mut touched = Touched::Nothing;
-        let special = apply::apply(e, self.special, &mut registers, memory, &mut touched);
-        Stepped {
-            exit: e.exit(),
-            touched,
-            state: State { registers, special },
+        let mut touched = None;
+        match effect_at(self.special, &registers, memory) {
+            Ok(e) => {
+                let special = apply::apply(e, self.special, &mut registers, memory, &mut touched);
+                Stepped {
+                    exit: None,
+                    touched,
+                    state: State { registers, special },
+                }
+            }
+            Err(exit) => Stepped {
+                exit: Some(exit),
+                touched,
+                state: self,
+            },
         }
     }
 

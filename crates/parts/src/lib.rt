@@ -6,15 +6,15 @@ ghost use Rattle.word.specs.Bytes.{load_of, store_of};
 ghost use Rattle.parts.specs.Parts as Spec;
 
 use effect::effect::Special;
+use isa::control::Control;
 
 #[tactic(auto, using(crate::proofs::Registers::put_other, crate::proofs::Registers::put_none))]
 fn put(registers: &mut [u32; 32], r: u32, v: u32)
     requires { r < 2 ^ 5 }
     ensures { registers.new ≡ Spec.put_of registers.old r v }
 {
-    let i = r as usize;
-    if i != 0 {
-        registers[i] = v;
+    if r != 0 {
+        registers[r as usize] = v;
     }
 }
 
@@ -52,18 +52,17 @@ pub fn with_status(c: Special, status: u32) -> Special
     Special { status, ..c }
 }
 
-// Numbers, as the instruction has them: an enum of the four would add a match of numbers to this one and to that of `system::control`.
 #[tactic(auto, unfolding(crate::specs::Parts::controlled_of))]
 pub fn controlled(c: Special, r: u32, v: u32) -> Special
     ensures { result ≡ Spec.controlled_of c r v }
 {
-    match r {
-        8 => Special { bad: v, ..c },
-        12 => Special {
+    match Control::try_from(r) {
+        Ok(Control::BadAddress) => Special { bad: v, ..c },
+        Ok(Control::Status) => Special {
             status: v % 8192,
             ..c
         },
-        13 => Special { cause: v, ..c },
+        Ok(Control::Cause) => Special { cause: v, ..c },
         _ => Special { epc: v, ..c },
     }
 }

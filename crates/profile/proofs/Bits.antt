@@ -2,6 +2,7 @@
 use Prim.Native.Nat.{ℕ, ◌+◌, ◌*◌, ◌/◌, ◌%◌, ◌^◌, ◌<◌}
 use mathlib.Core.Path.{◌≡◌, refl, sym, ap, ◌∙◌}
 use mathlib.Core.Bool.{Bool, true, false, not, ◌&&◌}
+use mathlib.Core.List.{List}
 use native.Mathlib.Omega.{arith}
 use lib.Dec.{eqb}
 use borrow.Author.Tests.{eqb-true, eq-eqb}
@@ -22,13 +23,14 @@ use Rattle.layout.specs.declared.Layout.{Layout}
 use Rattle.layout.proofs.Sizes.{same_test}
 use Rattle.view.specs.View.{passes, is_region, seen, view_of, word_view}
 use Rattle.quick.proofs.Guards.{both_are, told_both}
+use Rattle.rules.specs.Rules.{word_at, view_at}
 use Rattle.profile.specs.Rules.{is_last_bundle, is_syscall_kind, syscalls0, is_syscall0, is_back}
 
 -- all fields but the opcode, as one number
-abbrev lower : Fields → ℕ
+abbrev lower : Fields ℕ → ℕ
 lower f = ((((0 + f.rs) * 32 + f.rt) * 32 + f.rd) * 32 + f.shift) * 64 + f.funct
 
-below_opcode : (f : Fields) → Fit f → lower f ≡ join_of f % 2 ^ 26
+below_opcode : (f : Fields ℕ) → Fit f → lower f ≡ join_of f % 2 ^ 26
 below_opcode f h =
     let e : join_of f ≡ f.op * 2 ^ 26 + lower f = omega arith in
     let b : lower f < 2 ^ 26 = omega (arith, h.rs, h.rt, h.rd, h.shift, h.funct) in
@@ -50,7 +52,7 @@ module _ (w : ℕ) (h : w < 2 ^ 32) where
       rw (syscall_both (read_fields (cut_of w)), told_both is_syscall_kind (K.System Syscall) tt (λ i. eqb i.value 0) (cut_of w))
       (same_test _ _ (λ e. rw (eqb-true w 12 e)) (λ e. fields (cut_of w) (join_cut w) e))
     where
-      fields : (f : Fields) → join_of f ≡ w
+      fields : (f : Fields ℕ) → join_of f ≡ w
           → (eqb f.op 0 && eqb f.funct 12) && eqb ((((0 + f.rs) * 32 + f.rt) * 32 + f.rd) * 32 + f.shift) 0 ≡ true → eqb w 12 ≡ true
       fields f j e =
           let v = both (eqb f.op 0 && eqb f.funct 12) _ e in
@@ -71,12 +73,18 @@ module _ (w : ℕ) (h : w < 2 ^ 32) where
     back_both (Some y) = refl
     back_both None = refl
 
-    pub back_told : eqb (w / 2 ^ 26) 2 && leads_back (w % 2 ^ 26) ≡ passes (is_back l i) (word_view w)
+    told : passes (is_back l i) (word_view w) ≡ eqb (w / 2 ^ 26) 2 && leads_back (w % 2 ^ 26)
     unfolding word_view read_of fits decode_of
-    back_told =
+    told =
         rw (back_both (read_fields (cut_of w)), told_both is_jump (K.Branch J) tt (λ y. leads_back y.value) (cut_of w))
-        (shorter (eqb (w / 2 ^ 26) 2) ∙ ap (λ (v : ℕ). (eqb (w / 2 ^ 26) 2 && true) && leads_back v) (sym lower_is))
+        (shorter (eqb (w / 2 ^ 26) 2) ∙ ap (λ (v : ℕ). eqb (w / 2 ^ 26) 2 && leads_back v) lower_is)
       where
-        shorter : (b : Bool) → b && leads_back (w % 2 ^ 26) ≡ (b && true) && leads_back (w % 2 ^ 26)
+        shorter : (b : Bool) → (b && true) && leads_back (lower (cut_of w)) ≡ b && leads_back (lower (cut_of w))
         shorter true = refl
         shorter false = refl
+
+-- J to the last bundle's start at word i of an image
+pub back_told : (l : Layout) (img : List ℕ) (i w : ℕ) → w < 2 ^ 32 → w ≡ word_at img i
+    → passes (is_back l i) (view_at img i) ≡ eqb (w / 2 ^ 26) 2 && is_last_bundle l (region_of (l.code_base + 4 * i) (w % 2 ^ 26))
+unfolding view_at
+back_told l img i w h p = ap (λ (x : ℕ). passes (is_back l i) (word_view x)) (sym p) ∙ told w h l i

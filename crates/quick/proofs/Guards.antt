@@ -5,7 +5,7 @@ use mathlib.Core.Bool.{Bool, true, false, cond, not, ◌&&◌, ◌||◌, false�
 use native.Mathlib.Omega.{arith}
 use lib.Dec.{T, eqb, eqb→eq}
 use borrow.Author.Tests.{eq-eqb, eqb-true}
-use Rattle.std.specs.Prelude.{Option, Some, None}
+use Rattle.std.specs.Prelude.{Option, Some, None, is_some}
 use Rattle.word.specs.declared.field.Fields.{Fields}
 use Rattle.word.specs.Field.{cut_of, Fit}
 use Rattle.word.proofs.Choice as Choice
@@ -41,7 +41,7 @@ abbrev pub kind_is : (Kind → Bool) → Option Instruction → Bool
 kind_is t (Some i) = t i.kind
 kind_is t None = false
 
-module _ (f : Fields) where
+module _ (f : Fields ℕ) where
   -- the test holds where fields that pass it by their kind are read
   pub told_true : (t : Kind → Bool) (k : Kind) → T (fits_kind k f) → t k ≡ true → kind_is t (read_fields f) ≡ true
   unfolding decode_of
@@ -73,7 +73,7 @@ module _ (f : Fields) where
 -- ---- accesses and jumps
 
 abbrev accesses : Kind → Bool
-accesses k = not (eqb (class_of k).width 0)
+accesses k = is_some (class_of k).width
 
 abbrev by_register : Kind → Bool
 by_register k = is_register (class_of k).flow
@@ -100,7 +100,7 @@ is_code_law Part n x t h = absurd t
 abbrev holds_access : ℕ → Kind → Bool
 holds_access set k = not (accesses k) || (is_code (drawing_for k).op && is_in set (row_of k).code)
 
-module _ (f : Fields) (fit : Fit f) where
+module _ (f : Fields ℕ) (fit : Fit f) where
   -- a set of opcodes: each leads to an access, and that of each access is in it
   told_access : (set : ℕ) → T (leads set Tables.opcode (λ k. accesses k && settles_all (opcode any) (drawing_for k))) → T (every (holds_access set) instructions)
       → kind_is accesses (read_fields f) ≡ is_in set f.op
@@ -147,11 +147,11 @@ module _ (f : Fields) (fit : Fit f) where
 
 -- what a view says of the kind that was read
 module _ (r : Option Instruction) where
-  access_view : passes (λ v. not (eqb v.width 0)) (view_of r) ≡ kind_is accesses r
+  access_view : passes (λ v. is_some v.width) (view_of r) ≡ kind_is accesses r
   unfolding seen
   access_view = go r
     where
-      go : (r : Option Instruction) → passes (λ v. not (eqb v.width 0)) (view_of r) ≡ kind_is accesses r
+      go : (r : Option Instruction) → passes (λ v. is_some v.width) (view_of r) ≡ kind_is accesses r
       go (Some i) = refl
       go None = refl
 
@@ -175,7 +175,7 @@ either_passes : (t u : View → Bool) (o : Option View) → passes (λ v. t v ||
 either_passes t u (Some v) = refl
 either_passes t u None = refl
 
-module _ (w : ℕ) {f : Fields} (e : f ≡ cut_of w) (fit : Fit f) where
+module _ (w : ℕ) {f : Fields ℕ} (e : f ≡ cut_of w) (fit : Fit f) where
   pub register_jump : eqb f.op 0 && (eqb f.rt 0 && (eqb f.rd 0 && (eqb f.shift 0 && eqb f.funct 8))) || eqb f.op 0 && (eqb f.rt 0 && (eqb f.shift 0 && eqb f.funct 9))
       ≡ passes V.by_register (word_view w)
   unfolding word_view read_of fits
@@ -185,7 +185,7 @@ module _ (w : ℕ) {f : Fields} (e : f ≡ cut_of w) (fit : Fit f) where
       → T (leads set Tables.opcode (λ k. accesses k && settles_all (opcode any) (drawing_for k))) → T (every (holds_access set) instructions)
       → a || b ≡ passes needs_guard (word_view w)
   unfolding word_view read_of
-  needs_guard_law set p q h inside = rw (p, q, ← e, either_passes (λ v. not (eqb v.width 0)) V.by_register, access_view (read_fields f), told_access f fit set h inside)
+  needs_guard_law set p q h inside = rw (p, q, ← e, either_passes (λ v. is_some v.width) V.by_register, access_view (read_fields f), told_access f fit set h inside)
 
   pub jumps : {b : Bool} → b ≡ passes V.by_register (word_view w) → (eqb f.op 2 || eqb f.op 3) || b ≡ passes is_jump (word_view w)
   unfolding word_view read_of
@@ -198,7 +198,7 @@ abbrev pub both_are : (Kind → Bool) → (Instruction → Bool) → Option Inst
 both_are t u (Some i) = t i.kind && u i
 both_are t u None = false
 
-module _ (t : Kind → Bool) (j : Kind) (h : T (every (λ k. cond (t k) (is j k) (not (is j k))) instructions)) (u : Instruction → Bool) (f : Fields) where
+module _ (t : Kind → Bool) (j : Kind) (h : T (every (λ k. cond (t k) (is j k) (not (is j k))) instructions)) (u : Instruction → Bool) (f : Fields ℕ) where
   pub told_both : both_are t u (read_fields f) ≡ fits_kind j f && u (decode_of j (drawing_for j) f)
   unfolding decode_of
   told_both = go (fits_kind j f) refl
@@ -216,7 +216,7 @@ module _ (t : Kind → Bool) (j : Kind) (h : T (every (λ k. cond (t k) (is j k)
           rw (read_fits f j (subst T (sym e) tt), sym (same_test t (is j) h j) ∙ eq-eqb (key_of j) (key_of j) refl)
       go false e = fails (read_fields f) (sym (sole (read_fields f)) ∙ told_kind f j ∙ e)
 
-module _ (w : ℕ) {f : Fields} (e : f ≡ cut_of w) where
+module _ (w : ℕ) {f : Fields ℕ} (e : f ≡ cut_of w) where
   abbrev andi : Kind
   andi = K.Immediate Andi
 

@@ -7,7 +7,7 @@ use borrow.Author.Tests.{eq-eqb}
 use Rattle.word.specs.declared.field.Fields.{Fields}
 use Rattle.isa.specs.declared.format.Role.{Role}
 use Rattle.isa.specs.declared.format.Role.TheVariants.{Operand, Control, Fixed, Code, Part}
-use Rattle.isa.specs.declared.format.Drawing.{Drawing}
+use Rattle.isa.specs.Drawing.{Drawing}
 use Rattle.isa.specs.Reading.{accepts, fits}
 use Rattle.isa.proofs.Codes.{both}
 use Rattle.isa.proofs.Drawings.{Matched, matching}
@@ -71,7 +71,7 @@ pub record Pattern : Type 0 where
   pub shift : Known
   pub funct : Known
 
-pub record Holds (p : Pattern) (n : ℕ) (f : Fields) : Type 0 where
+pub record Holds (p : Pattern) (n : ℕ) (f : Fields ℕ) : Type 0 where
   pub op : Knows p.op n f.op
   pub rs : Knows p.rs n f.rs
   pub rt : Knows p.rt n f.rt
@@ -83,7 +83,7 @@ abbrev pub settles_all : Pattern → Drawing → Bool
 settles_all p d =
     settles p.op d.op && (settles p.rs d.rs && (settles p.rt d.rt && (settles p.rd d.rd && (settles p.shift d.shift && settles p.funct d.funct))))
 
-pub pattern_fits : (p : Pattern) (d : Drawing) (n : ℕ) (f : Fields) → T (settles_all p d) → Holds p n f → T (fits d n f)
+pub pattern_fits : (p : Pattern) (d : Drawing) (n : ℕ) (f : Fields ℕ) → T (settles_all p d) → Holds p n f → T (fits d n f)
 pattern_fits p d n f t h =
     let a = both (settles p.op d.op) _ t in
     let b = both (settles p.rs d.rs) _ a.1 in

@@ -5,6 +5,7 @@ use mathlib.Core.Bool.{Bool, true, false, not, ◌&&◌, ◌||◌}
 use mathlib.Core.Logic.{◌⊎◌, inl, inr, ⊎_elim}
 use lib.Dec.{T, eqb}
 use borrow.Author.Tests.{eqb-true, not-true}
+use Rattle.std.specs.Prelude.{is_some}
 use Rattle.word.specs.declared.field.Fields.{Fields}
 use Rattle.word.specs.Field.{cut_of, Fit}
 use Rattle.word.proofs.Choice as Choice
@@ -63,7 +64,7 @@ abbrev register_of : Bool → Instruction → ℕ
 register_of true i = i.rd
 register_of false i = i.rt
 
-abbrev field_of : Bool → Fields → ℕ
+abbrev field_of : Bool → Fields ℕ → ℕ
 field_of true f = f.rd
 field_of false f = f.rt
 
@@ -87,10 +88,10 @@ plain_kind b k =
     told b (class_of k).destination
     && (not (is_barred k 15)
     && (not (class_of k).link
-    && (eqb (class_of k).width 0
+    && (not (is_some (class_of k).width)
     && not (is_relative (class_of k).flow || (is_region (class_of k).flow || is_register (class_of k).flow)))))
 
-module _ (b : Bool) (k : Kind) (f : Fields) where
+module _ (b : Bool) (k : Kind) (f : Fields ℕ) where
   abbrev decoded : Instruction
   decoded = decode_of k (drawing_for k) f
 
@@ -108,11 +109,11 @@ module _ (b : Bool) (k : Kind) (f : Fields) where
       let c = both (told b (class_of k).destination) _ t in
       let d = both (not (is_barred k 15)) _ c.1 in
       let e = both (not (class_of k).link) _ d.1 in
-      let g = both (eqb (class_of k).width 0) _ e.1 in
+      let g = both (not (is_some (class_of k).width)) _ e.1 in
       and_true (ap not (barred_never k decoded.value (not-true (is_barred k 15) (is_true (not (is_barred k 15)) d.0))))
       (and_true (ap not (written_spared b (class_of k).destination decoded c.0 (decoded_spared h)))
       (and_true (is_true (not (class_of k).link) e.0)
-      (and_true (is_true (eqb (class_of k).width 0) g.0) (is_true _ g.1))))
+      (and_true (is_true (not (is_some (class_of k).width)) g.0) (is_true _ g.1))))
 
   plain_fits : (p : Pattern) → T (plain_kind b k) → T (settles_all p (drawing_for k)) → Holds p (row_of k).code f → is_base (field_of b f) ≡ false → Plain f
   plain_fits p t s h e = rw (read_fits f k (pattern_fits p (drawing_for k) (row_of k).code f s h)) (plain_seen t e)
@@ -124,7 +125,7 @@ abbrev pub plain_by : Bool → Pattern → Kind → Bool
 plain_by b p k = plain_kind b k && settles_all p (drawing_for k)
 
 module _ (b : Bool) (p : Pattern) (m : Table) (set : ℕ) (h : T (leads set m (plain_by b p))) where
-  pub plain_in : (f : Fields) (n : ℕ) → n < 64 → is_in set n ≡ true → Holds p n f → is_base (field_of b f) ≡ false → Plain f
+  pub plain_in : (f : Fields ℕ) (n : ℕ) → n < 64 → is_in set n ≡ true → Holds p n f → is_base (field_of b f) ≡ false → Plain f
   plain_in f n l e g z =
       let k = led set m (plain_by b p) h n l e in
       let t = both (plain_kind b k.kind) _ k.passed in
@@ -136,7 +137,7 @@ either : (a b : Bool) → a || b ≡ true → (a ≡ true) ⊎ (b ≡ true)
 either true b h = inl refl
 either false b h = inr h
 
-module _ (f : Fields) (fit : Fit f) where
+module _ (f : Fields ℕ) (fit : Fit f) where
   -- a set's codes are tried along the whole set: h
   module _ {a b g : Bool} (z : f.op ≡ 0) (pg : g ≡ is_base f.rd) (sa sb : ℕ) (pa : a ≡ is_in sa f.funct) (pb : b ≡ is_in sb f.funct)
       (ha : T (leads sa function (plain_by true (special any any any blank)))) (hb : T (leads sb function (plain_by true (special blank any any any)))) where
@@ -201,6 +202,6 @@ module _ (f : Fields) (fit : Fit f) where
             plain_fits false (K.Immediate Lui) f (opcode blank) tt tt
             (record { op = eqb-true _ _ q.0; rs = eqb-true _ _ q.1; rt = tt; rd = tt; shift = tt; funct = tt }) s
 
-pub word_plain : (w : ℕ) {f : Fields} → f ≡ cut_of w → Plain f → PlainWord w
+pub word_plain : (w : ℕ) {f : Fields ℕ} → f ≡ cut_of w → Plain f → PlainWord w
 unfolding word_view read_of
 word_plain w e h = rw e at h

@@ -5,7 +5,7 @@ use Rattle.isa.specs.Reading.{read_fields}
 use Rattle.view.specs.View.{passes, is_plain, view_of, word_view}
 
 -- by its fields
-abbrev pub Plain : Fields → Type 0
+abbrev pub Plain : Fields ℕ → Type 0
 Plain f = passes is_plain (view_of (read_fields f)) ≡ true
 
 abbrev pub PlainWord : ℕ → Type 0

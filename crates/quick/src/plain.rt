@@ -24,7 +24,7 @@ const CONSTANTS: u64 = 0x0000000000007f00;
 
 const LUI: u32 = 15;
 
-fn is_plain_special(f: Fields) -> bool
+fn is_plain_special(f: Fields<u32>) -> bool
     requires { Fit f × (f.op ≡ 0) }
     ensures { result ≡ true → Plain f }
 {

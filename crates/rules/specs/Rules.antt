@@ -1,6 +1,7 @@
 -- The rules of words as tests, 10 to 15 (document 01, Module and its guards; Refusal table); 8 is that there is no view, 9 is `barred` of the view. img is the image, i a word's index.
-use Rattle.std.specs.Prelude.{ℕ, ◌+◌, ◌-◌, ◌*◌, ◌/◌, ◌%◌, ◌≤◌, Bool, false, cond, not, ◌&&◌, ◌||◌, ◌≡◌, List, Option, Some, None, eqb, leb, ltb, ℤ, pos, negsuc, length}
+use Rattle.std.specs.Prelude.{ℕ, ◌+◌, ◌-◌, ◌*◌, ◌/◌, ◌%◌, ◌≤◌, Bool, false, cond, not, ◌&&◌, ◌||◌, ◌≡◌, List, Option, Some, None, is_some, eqb, leb, ltb, ℤ, pos, negsuc, length}
 use Rattle.word.specs.Bytes.{load_of, longest}
+use Rattle.class.specs.Class.{bytes_of}
 use Rattle.branch.specs.Branch.{relative_of, region_of}
 use Rattle.layout.specs.declared.Layout.{Layout}
 use Rattle.view.specs.declared.View.{View}
@@ -71,8 +72,8 @@ fits_code size m = eqb (m % 16) 0 && leb (m + 16) size
 -- access without fitting guard
 unfoldable pub broken12 : ℕ → List ℕ → ℕ → View → Bool
 broken12 size img i v =
-    not (eqb v.width 0)
-    && not (in_bundle i && (is_guarded_at img i 26 v.rs && fits_data size (mask_at img i) (offset_of v.value) v.width))
+    is_some v.width
+    && not (in_bundle i && (is_guarded_at img i 26 v.rs && fits_data size (mask_at img i) (offset_of v.value) (bytes_of v.width)))
 
 -- JR or JALR without fitting guard
 unfoldable pub broken13 : ℕ → List ℕ → ℕ → View → Bool

@@ -9,33 +9,28 @@ use quick::guard::needs_guard;
 use view::View;
 
 // A branch may come to word i: neither it nor the next needs a guard.
-#[tactic(auto, using(crate::proofs::Targets::entry_is))]
+#[tactic(auto, unfolding(crate::specs::Rules::is_entry, crate::specs::Rules::view_at))]
 fn is_entry(image: &[u8], i: usize) -> bool
     requires { 4 * i + 8 ≤ length image.now }
     ensures { result ≡ Spec.is_entry image.now i }
 {
     let here = word_at(image, i);
     let next = word_at(image, i + 1);
-    !needs_guard(here) & !needs_guard(next)
+    !needs_guard(here) && !needs_guard(next)
 }
 
-#[tactic(auto, using(crate::proofs::Targets::lands_below, crate::proofs::Targets::lands_above, crate::proofs::Targets::lands_last, crate::proofs::Targets::lands_inside))]
+#[tactic(auto, unfolding(crate::specs::Rules::lands))]
 fn lands(whole: Module, target: u32) -> bool
     requires { target % 4 ≡ 0 }
     ensures { result ≡ Spec.lands whole.entry.layout whole.entry.image.now target }
 {
     let layout = whole.layout;
-    if target < layout.code_base {
+    let Some(offset) = target.checked_sub(layout.code_base) else {
         return false;
-    }
-    let offset = target - layout.code_base;
-    if layout.code_size <= offset {
-        return false;
-    }
-    if offset + 4 == layout.code_size {
-        return false;
-    }
-    is_entry(whole.image, (offset / 4) as usize)
+    };
+    offset < layout.code_size
+        && offset + 4 != layout.code_size
+        && is_entry(whole.image, (offset / 4) as usize)
 }
 
 #[tactic(auto, unfolding(crate::specs::Rules::target_of))]
@@ -49,13 +44,9 @@ pub fn target(v: View, pc: u32) -> u32
     }
 }
 
-#[tactic(auto, using(crate::proofs::Targets::target_aligned, crate::proofs::Targets::pc_aligned, crate::proofs::Targets::direct, crate::proofs::Targets::not_direct))]
+#[tactic(auto, using(crate::proofs::Targets::target_aligned, crate::proofs::Targets::pc_aligned), unfolding(crate::specs::Rules::broken15))]
 pub fn breaks15(site: Site, v: View) -> bool
     ensures { result ≡ Spec.broken15 site.entry.whole.layout site.entry.whole.image.now site.entry.index v }
 {
-    if matches!(v.flow, Flow::Relative | Flow::Region) {
-        let pc = site.whole.layout.code_base + 4 * (site.index as u32);
-        return !lands(site.whole, target(v, pc));
-    }
-    false
+    matches!(v.flow, Flow::Relative | Flow::Region) && !lands(site.whole, target(v, site.pc()))
 }

@@ -17,7 +17,7 @@ pub fn breaks11(v: View) -> bool
     ensures { result ≡ Spec.broken11 v }
 {
     v.link
-        & match v.flow {
+        && match v.flow {
             Flow::Register => v.rd == v.rs,
             Flow::Relative => v.rs == 31,
             Flow::Onward | Flow::Region => false,
@@ -28,5 +28,5 @@ pub fn breaks11(v: View) -> bool
 pub fn breaks14(after: bool, v: View) -> bool
     ensures { result ≡ Spec.broken14 after v }
 {
-    v.is_branch() & after
+    after && v.is_branch()
 }

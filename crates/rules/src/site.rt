@@ -13,6 +13,15 @@ pub struct Module<'a> {
     pub ghost sized: { Sized layout image.now },
 }
 
+impl Module<'_> {
+    // The address after the code.
+    pub fn end(self) -> u32
+        ensures { result ≡ self.entry.layout.code_base + self.entry.layout.code_size }
+    {
+        self.layout.code_base + self.layout.code_size
+    }
+}
+
 // A word of a module, by its index.
 #[derive(Clone, Copy)]
 pub struct Site<'a> {
@@ -30,5 +39,12 @@ impl<'a> Site<'a> {
             image: self.whole.image,
             index: self.index,
         }
+    }
+
+    // The address of the word.
+    pub fn pc(self) -> u32
+        ensures { result ≡ self.entry.whole.layout.code_base + 4 * self.entry.index }
+    {
+        self.whole.layout.code_base + 4 * (self.index as u32)
     }
 }

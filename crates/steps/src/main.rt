@@ -23,6 +23,7 @@ const CASES: u32 = 1000000;
 
 fn print_state(out: &mut impl Write, case: &[u8; 256], state: &[u8; 164]) -> io::Result<()> {
     let words = case[..LENGTH].chunks_exact(4).zip(state.chunks_exact(4));
+    // A loop, since the first write that fails ends it.
     for (i, (old, new)) in words.enumerate() {
         if old != new {
             write!(out, " {i}={:08x}", load::<4>(new, 0))?;
@@ -32,6 +33,7 @@ fn print_state(out: &mut impl Write, case: &[u8; 256], state: &[u8; 164]) -> io:
 }
 
 fn print_memory(out: &mut impl Write, before: &[u8], after: &[u8]) -> io::Result<()> {
+    // A loop, as above.
     for (i, (old, new)) in before.iter().zip(after).enumerate() {
         if old != new {
             write!(out, " m{i}={new:02x}")?;
@@ -42,6 +44,7 @@ fn print_memory(out: &mut impl Write, before: &[u8], after: &[u8]) -> io::Result
 
 // The number of the last step.
 fn steps(state: &mut [u8], memory: &mut [u8], count: u32) -> u32 {
+    // A loop, since each step goes on from the state that the one before it left, and an exit ends it.
     for _ in 0..count {
         let number = cc100_step::cc100_step(state, memory).number;
         if number != 0 {
@@ -86,6 +89,7 @@ fn main(rt: HostRuntime) -> io::Result<()> {
     let mut input = rt.stdin();
     let mut out = rt.stdout();
     let mut case = [0u8; 256];
+    // A loop, since nobody knows how many cases are to come before the input ends.
     for _ in 0..CASES {
         if !next_case(&mut input, &mut out, &mut case)? {
             return Ok(());

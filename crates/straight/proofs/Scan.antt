@@ -6,8 +6,6 @@ use mathlib.Core.List.{List}
 use native.Mathlib.Nat.{zero-add}
 use native.Mathlib.Omega.{arith}
 use lib.Dec.{eqb}
-use Rattle.refusal.specs.declared.Refusal.{Refusal}
-use Rattle.refusal.specs.Refusal.{number_of}
 use Rattle.layout.specs.declared.Layout.{Layout}
 use Rattle.view.specs.declared.View.{View}
 use Rattle.std.specs.Prelude.{Option, Some, None}
@@ -16,10 +14,9 @@ use Rattle.rules.specs.Rules.{view_at, view_before}
 use Rattle.checker.specs.declared.verdict.Verdict.{Verdict}
 use Rattle.checker.specs.Check.{verdict, no_place, in_turn, is_word_broken, first_of}
 use Rattle.checker.specs.Refusal.{All}
-use Rattle.checker.specs.Scan.{file_refusal, word_refusal, number_of_branch, number_of_word, number_at, end_verdict, words_verdict, words_by}
-use Rattle.checker.proofs.Numbers.{not_zero}
+use Rattle.checker.specs.Scan.{word_refusal, number_of_branch, number_of_word, number_at, end_verdict, words_verdict, image_verdict, words_by}
 use Rattle.checker.proofs.Trials.{of_words}
-use Rattle.checker.proofs.Scan.{given, seen_ladder, Gives, turned, neither, OfWords, file_refused, words_tried}
+use Rattle.checker.proofs.Scan.{given, seen_ladder, Gives, turned, neither, OfWords, image_tried}
 use Rattle.profile.specs.Rules.{broken20, broken21}
 use Rattle.profile.proofs.Tests.{undirected}
 use Rattle.straight.specs.Check.{straight_at, straight_after, is_straight_broken, straight_of}
@@ -81,11 +78,7 @@ pub all_of_words : (n i : ℕ) → All OfWords (in_turn straight_at straight_aft
 all_of_words n i = of_words OfWords straight_at straight_after n i (λ j _ _. omega arith, omega arith)
 
 module _ (l : Layout) (len : ℕ) (img : List ℕ) where
-  pub straight_refused : (r : Refusal) → number_of r ≡ file_refusal l len img → verdict (number_of r) no_place ≡ straight_of l len img
+  pub straight_image : image_verdict of_branch of_whole l len img ≡ straight_of l len img
   unfolding straight_of
-  straight_refused r e = file_refused (is_straight_broken l img) straight_at straight_after l len img e (not_zero r)
-
-  pub straight_tried : (v : Verdict) → 0 ≡ file_refusal l len img → v ≡ words_verdict of_branch of_whole l img → v ≡ straight_of l len img
-  unfolding straight_of
-  straight_tried v e q =
-      words_tried (is_straight_broken l img) straight_at straight_after l len img e refl (all_of_words (l.code_size / 4) 0) (q ∙ straight_words l img)
+  straight_image =
+      image_tried (is_straight_broken l img) straight_at straight_after l len img (all_of_words (l.code_size / 4) 0) _ _ (straight_words l img)

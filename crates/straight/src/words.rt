@@ -14,16 +14,10 @@ impl Profile for StraightThrough {
     ghost of_whole = { Spec.of_whole };
 
     fn check_branch(site: Site, v: View) -> Result<(), Refusal> {
-        if profile::breaks20(site.whole.layout, site.index as u32, v) {
-            return Err(Refusal::NotForward);
-        }
-        Ok(())
+        Refusal::NotForward.when(profile::breaks20(site, v))
     }
 
     fn check_whole(whole: Module) -> Result<(), Refusal> {
-        if profile::breaks21(whole) {
-            return Err(Refusal::LastBundle);
-        }
-        Ok(())
+        Refusal::LastBundle.when(profile::breaks21(whole))
     }
 }

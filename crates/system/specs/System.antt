@@ -1,11 +1,11 @@
 -- Document 004, sections 1.1.8, 1.1.10 and 1.1.11: exceptions, privileged instructions, SYNC, each beside its Operation in 1.2. b is GPR[rt].
-use Rattle.std.specs.Prelude.{ℕ, ◌+◌, ◌*◌, ◌%◌, ◌/◌, ◌^◌, Bool, cond, not, ◌&&◌, eqb}
+use Rattle.std.specs.Prelude.{ℕ, ◌+◌, ◌*◌, ◌%◌, ◌/◌, ◌^◌, Bool, cond, not, ◌&&◌, eqb, Result, Ok, Err}
 use Rattle.isa.specs.declared.kind.System.{System}
 use Rattle.isa.specs.declared.kind.System.TheVariants.{Syscall, Break, Rfe, Mfc0, Mtc0, Sync}
 use Rattle.effect.specs.declared.effect.Special.{Special}
 use Rattle.effect.specs.declared.effect.Effect.{Effect}
-use Rattle.effect.specs.declared.effect.Effect.TheVariants.{Exit, Advance, Write, Control, Return}
-use Rattle.effect.specs.declared.exit.Exit as X
+use Rattle.effect.specs.declared.effect.Effect.TheVariants.{Advance, Write, Control, Return}
+use Rattle.effect.specs.declared.exit.Exit.{Exit}
 use Rattle.effect.specs.declared.exit.Exit.TheVariants as E
 
 -- the status register's current mode, bit 3: user, not kernel (document 01, Machine)
@@ -25,21 +25,21 @@ unfoldable pub control_of : Special → ℕ → ℕ
 control_of s d = cond (eqb d 8) s.bad (cond (eqb d 12) s.status (cond (eqb d 13) s.cause s.epc))
 
 -- code 15 does not raise the exception in kernel mode (1.2.58)
-unfoldable pub system_call_of : ℕ → ℕ → Effect
-system_call_of code status = cond (eqb code 15 && not (is_user status)) (Exit E.StopCores) (Exit E.SystemCall)
+unfoldable pub system_call_of : ℕ → ℕ → Exit
+system_call_of code status = cond (eqb code 15 && not (is_user status)) E.StopCores E.SystemCall
 
 -- code 15 enters debug mode and raises no exception (1.2.15)
-unfoldable pub breakpoint_of : ℕ → Effect
-breakpoint_of code = cond (eqb code 15) (Exit E.DebugBreak) (Exit E.Breakpoint)
+unfoldable pub breakpoint_of : ℕ → Exit
+breakpoint_of code = cond (eqb code 15) E.DebugBreak E.Breakpoint
 
-unfoldable pub privileged : ℕ → X.Exit → Effect → Effect
-privileged status exit e = cond (is_user status) (Exit exit) e
+unfoldable pub privileged : ℕ → Exit → Effect → Result Effect Exit
+privileged status exit e = cond (is_user status) (Err exit) (Ok e)
 
 -- RFE clears the LL bit where its effect is carried out; SYSCALL exits as System Call (document 01, Machine)
-abbrev pub system_of : System → ℕ → ℕ → ℕ → ℕ → Special → Effect
-system_of Syscall rt rd b v s = system_call_of v s.status
-system_of Break rt rd b v s = breakpoint_of v
+abbrev pub system_of : System → ℕ → ℕ → ℕ → ℕ → Special → Result Effect Exit
+system_of Syscall rt rd b v s = Err (system_call_of v s.status)
+system_of Break rt rd b v s = Err (breakpoint_of v)
 system_of Rfe rt rd b v s = privileged s.status E.PrivilegedInstruction (Return (restored s.status))
 system_of Mfc0 rt rd b v s = privileged s.status E.PrivilegedData (Write rt (control_of s rd))
 system_of Mtc0 rt rd b v s = privileged s.status E.PrivilegedData (Control rd b)
-system_of Sync rt rd b v s = Advance
+system_of Sync rt rd b v s = Ok Advance

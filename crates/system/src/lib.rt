@@ -1,11 +1,12 @@
 // Exceptions, privileged instructions and SYNC. b is GPR[rt].
 #![tactic(auto)]
 
-ghost use Rattle.std.specs.Prelude.{◌≡◌};
+ghost use Rattle.std.specs.Prelude.{◌≡◌, cond, Ok, Err};
 ghost use Rattle.system.specs.System as Spec;
 
 use effect::effect::{Effect, Special};
 use effect::exit::Exit;
+use isa::control::Control;
 use isa::kind::System;
 
 // The code of BREAK and SYSCALL that raises no exception.
@@ -15,78 +16,76 @@ const RESERVED: u32 = 15;
 fn is_user(status: u32) -> bool
     ensures { result ≡ Spec.is_user status }
 {
-    status / 8 % 2 == 1
+    (status >> 3) & 1 == 1
 }
 
 fn restored(status: u32) -> u32
     ensures { result ≡ Spec.restored status }
 {
-    status / 2 % 4 + 8 * (status / 16 % 4) + 64 * (status / 128 % 64)
+    ((status >> 1) & 0b11) + (((status >> 4) & 0b11) << 3) + (((status >> 7) & 0b11_1111) << 6)
 }
 
 #[tactic(auto, unfolding(crate::specs::System::control_of))]
 fn control(s: Special, d: u32) -> u32
     ensures { result ≡ Spec.control_of s d }
 {
-    match d {
-        8 => s.bad,
-        12 => s.status,
-        13 => s.cause,
+    match Control::try_from(d) {
+        Ok(Control::BadAddress) => s.bad,
+        Ok(Control::Status) => s.status,
+        Ok(Control::Cause) => s.cause,
         _ => s.epc,
     }
 }
 
 #[tactic(auto, unfolding(crate::specs::System::system_call_of))]
-fn system_call(code: u32, status: u32) -> Effect
+fn system_call(code: u32, status: u32) -> Exit
     ensures { result ≡ Spec.system_call_of code status }
 {
     if (code == RESERVED) & !is_user(status) {
-        Effect::Exit(Exit::StopCores)
+        Exit::StopCores
     } else {
-        Effect::Exit(Exit::SystemCall)
+        Exit::SystemCall
     }
 }
 
 #[tactic(auto, unfolding(crate::specs::System::breakpoint_of))]
-fn breakpoint(code: u32) -> Effect
+fn breakpoint(code: u32) -> Exit
     ensures { result ≡ Spec.breakpoint_of code }
 {
     if code == RESERVED {
-        Effect::Exit(Exit::DebugBreak)
+        Exit::DebugBreak
     } else {
-        Effect::Exit(Exit::Breakpoint)
+        Exit::Breakpoint
     }
+}
+
+// Passes in kernel mode alone.
+fn privileged(status: u32, exit: Exit) -> Result<(), Exit>
+    ensures { result ≡ cond (Spec.is_user status) (Err exit) (Ok tt) }
+{
+    if is_user(status) { Err(exit) } else { Ok(()) }
 }
 
 #[tactic(auto, unfolding(crate::specs::System::privileged))]
-fn privileged(status: u32, exit: Exit, e: Effect) -> Effect
-    ensures { result ≡ Spec.privileged status exit e }
-{
-    if is_user(status) {
-        Effect::Exit(exit)
-    } else {
-        e
-    }
-}
-
-pub fn system(k: System, rt: u32, rd: u32, b: u32, v: u32, s: Special) -> Effect
+pub fn system(k: System, rt: u32, rd: u32, b: u32, v: u32, s: Special) -> Result<Effect, Exit>
     ensures { result ≡ Spec.system_of k rt rd b v s }
 {
     let status = s.status;
     match k {
-        System::Syscall => system_call(v, status),
-        System::Break => breakpoint(v),
-        System::Rfe => privileged(
-            status,
-            Exit::PrivilegedInstruction,
-            Effect::Return(restored(status)),
-        ),
-        System::Mfc0 => privileged(
-            status,
-            Exit::PrivilegedData,
-            Effect::Write(rt, control(s, rd)),
-        ),
-        System::Mtc0 => privileged(status, Exit::PrivilegedData, Effect::Control(rd, b)),
-        System::Sync => Effect::Advance,
+        System::Syscall => Err(system_call(v, status)),
+        System::Break => Err(breakpoint(v)),
+        System::Rfe => {
+            privileged(status, Exit::PrivilegedInstruction)?;
+            Ok(Effect::Return(restored(status)))
+        }
+        System::Mfc0 => {
+            privileged(status, Exit::PrivilegedData)?;
+            Ok(Effect::Write(rt, control(s, rd)))
+        }
+        System::Mtc0 => {
+            privileged(status, Exit::PrivilegedData)?;
+            Ok(Effect::Control(rd, b))
+        }
+        System::Sync => Ok(Effect::Advance),
     }
 }

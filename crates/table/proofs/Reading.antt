@@ -42,7 +42,7 @@ plain Regimm = false
 plain Cop0 = false
 plain (Holds k) = true
 
-followed_plain : (e : Entry) (f : Fields) → T (plain e) → followed e f ≡ place_in opcode f
+followed_plain : (e : Entry) (f : Fields ℕ) → T (plain e) → followed e f ≡ place_in opcode f
 followed_plain Empty f t = refl
 followed_plain Special f t = absurd t
 followed_plain Regimm f t = absurd t
@@ -57,7 +57,7 @@ marked Cop0 n = eqb n 16
 marked (Holds k) n = true
 
 -- each marker stands at its opcode alone
-pub marks : (f : Fields) → Fit f → Marks (entry_at (place_in opcode f)) f.op
+pub marks : (f : Fields ℕ) → Fit f → Marks (entry_at (place_in opcode f)) f.op
 unfolding opcodes
 marks f h = says (get_or opcodes f.op Empty) (below 64 (λ i. marked (get_or opcodes i Empty) i) tt f.op h.op)
   where
@@ -69,13 +69,13 @@ marks f h = says (get_or opcodes f.op Empty) (below 64 (λ i. marked (get_or opc
     says (Holds k) t = tt
 
 -- which table the opcode leads to
-data Origin (f : Fields) : Type 0 where
+data Origin (f : Fields ℕ) : Type 0 where
   of_special : f.op ≡ 0 → key_in f ≡ 64 + f.funct → Origin f
   of_regimm : f.op ≡ 1 → key_in f ≡ 128 + f.rt → Origin f
   of_cop0 : f.op ≡ 16 → key_in f ≡ 192 + f.rs → Origin f
   of_opcode : (f.op ≡ 0 → ⊥) → (f.op ≡ 1 → ⊥) → (f.op ≡ 16 → ⊥) → key_in f ≡ f.op → Origin f
 
-origin : (f : Fields) → Origin f
+origin : (f : Fields ℕ) → Origin f
 origin f = by_zero (eqb f.op 0) refl
   where
     by_sixteen : (b : Bool) → eqb f.op 16 ≡ b → (f.op ≡ 0 → ⊥) → (f.op ≡ 1 → ⊥) → Origin f
@@ -91,11 +91,11 @@ origin f = by_zero (eqb f.op 0) refl
     by_zero false e = by_one (eqb f.op 1) refl (eqb-false f.op 0 e)
 
 -- the fields lead to a place of the tables, which has their key
-record Leads (f : Fields) : Type 0 where
+record Leads (f : Fields ℕ) : Type 0 where
   key : key_at (place_of f) ≡ key_in f
   inside : Inside (place_of f)
 
-module _ (f : Fields) (h : Fit f) where
+module _ (f : Fields ℕ) (h : Fit f) where
   lead : (t : Table) → place_of f ≡ place_in t f → key_in f ≡ key_at (place_in t f) → Inside (place_in t f) → Leads f
   lead t e k i = record { key = ap key_at e ∙ sym k; inside = subst Inside (sym e) i }
 
@@ -137,7 +137,7 @@ module _ (f : Fields) (h : Fit f) where
 
 -- ---- the look-up, table by table
 
-module _ (f : Fields) where
+module _ (f : Fields ℕ) where
   abbrev first : Entry
   first = get_or opcodes f.op Empty
 
@@ -181,7 +181,7 @@ all_plain (e ∷ es) t zero = (both (plain e) (every_plain es) t).0
 all_plain (e ∷ es) t (suc i) = all_plain es (both (plain e) (every_plain es) t).1 i
 
 -- no table but that by the opcode names another
-followed_ends : (o : Entry) (f : Fields) → entry_at (place_in opcode f) ≡ o → T (plain (entry_at (followed o f)))
+followed_ends : (o : Entry) (f : Fields ℕ) → entry_at (place_in opcode f) ≡ o → T (plain (entry_at (followed o f)))
 unfolding functions conditions controls
 followed_ends Empty f e = subst (λ (x : Entry). T (plain x)) (sym e) tt
 followed_ends Special f e = all_plain functions tt f.funct
@@ -189,7 +189,7 @@ followed_ends Regimm f e = all_plain conditions tt f.rt
 followed_ends Cop0 f e = all_plain controls tt f.rs
 followed_ends (Holds k) f e = subst (λ (x : Entry). T (plain x)) (sym e) tt
 
-pub entry_ends : (f : Fields) → Ends (entry_at (place_of f))
+pub entry_ends : (f : Fields ℕ) → Ends (entry_at (place_of f))
 unfolding place_of
 entry_ends f = go (entry_at (place_of f)) (followed_ends (entry_at (place_in opcode f)) f refl)
   where
@@ -203,56 +203,15 @@ entry_ends f = go (entry_at (place_of f)) (followed_ends (entry_at (place_in opc
 -- ---- what a reader of words needs
 
 module _ (w : ℕ) (small : w < 2 ^ 32) where
-  abbrev fields : Fields
+  abbrev fields : Fields ℕ
   fields = cut_of w
 
   fit : Fit fields
   fit = cut_fit w small
 
-  module _ (k : Kind) (e : entry_of fields ≡ Some k) where
-    pub read_entry : read_as k fields ≡ read_of w
-    unfolding read_of
-    read_entry = sym (read_found_law fields k (entry_key fields fit k e))
-
-    -- the key is made of the table and the code, by which the fields are told
-    coded : (row_of k).code < 64
-    coded = ltb→lt (row_of k).code 64 (every_kind (λ j. ltb (row_of j).code 64) tt k)
-
-    pub by_opcode : table_of (row_of k).format ≡ 0 → fields.op ≡ (row_of k).code
-    by_opcode t = go (origin fields)
-      where
-        go : Origin fields → fields.op ≡ (row_of k).code
-        go (of_special p q) = absurd (omega (arith, entry_key fields fit k e, coded))
-        go (of_regimm p q) = absurd (omega (arith, entry_key fields fit k e, coded))
-        go (of_cop0 p q) = absurd (omega (arith, entry_key fields fit k e, coded))
-        go (of_opcode x y z q) = omega (arith, entry_key fields fit k e, coded)
-
-    pub by_function : table_of (row_of k).format ≡ 1 → (fields.op ≡ 0) × (fields.funct ≡ (row_of k).code)
-    by_function t = go (origin fields)
-      where
-        go : Origin fields → (fields.op ≡ 0) × (fields.funct ≡ (row_of k).code)
-        go (of_special p q) = (p, omega (arith, entry_key fields fit k e, coded))
-        go (of_regimm p q) = absurd (omega (arith, entry_key fields fit k e, coded, fit.funct, fit.rt, fit.rs))
-        go (of_cop0 p q) = absurd (omega (arith, entry_key fields fit k e, coded, fit.funct, fit.rt, fit.rs))
-        go (of_opcode x y z q) = absurd (omega (arith, entry_key fields fit k e, coded, fit.op))
-
-    pub by_condition : table_of (row_of k).format ≡ 2 → (fields.op ≡ 1) × (fields.rt ≡ (row_of k).code)
-    by_condition t = go (origin fields)
-      where
-        go : Origin fields → (fields.op ≡ 1) × (fields.rt ≡ (row_of k).code)
-        go (of_special p q) = absurd (omega (arith, entry_key fields fit k e, coded, fit.funct, fit.rt, fit.rs))
-        go (of_regimm p q) = (p, omega (arith, entry_key fields fit k e, coded))
-        go (of_cop0 p q) = absurd (omega (arith, entry_key fields fit k e, coded, fit.funct, fit.rt, fit.rs))
-        go (of_opcode x y z q) = absurd (omega (arith, entry_key fields fit k e, coded, fit.op))
-
-    pub by_control : table_of (row_of k).format ≡ 3 → (fields.op ≡ 16) × (fields.rs ≡ (row_of k).code)
-    by_control t = go (origin fields)
-      where
-        go : Origin fields → (fields.op ≡ 16) × (fields.rs ≡ (row_of k).code)
-        go (of_special p q) = absurd (omega (arith, entry_key fields fit k e, coded, fit.funct, fit.rt, fit.rs))
-        go (of_regimm p q) = absurd (omega (arith, entry_key fields fit k e, coded, fit.funct, fit.rt, fit.rs))
-        go (of_cop0 p q) = (p, omega (arith, entry_key fields fit k e, coded))
-        go (of_opcode x y z q) = absurd (omega (arith, entry_key fields fit k e, coded, fit.op))
+  pub read_entry : (k : Kind) → entry_of fields ≡ Some k → read_as k fields ≡ read_of w
+  unfolding read_of
+  read_entry k e = sym (read_found_law fields k (entry_key fields fit k e))
 
   -- the kind of an instruction that is read is the one looked up
   pub kind_looked_up : (i : Instruction) → read_of w ≡ Some i → entry_of fields ≡ Some i.kind

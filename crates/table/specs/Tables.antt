@@ -110,7 +110,7 @@ abbrev pub entry_at : Place → Entry
 entry_at p = get_or (entries p.table) p.index Empty
 
 -- the field that is a place in a table, and how many bits it has
-abbrev pub field_for : Table → Fields → ℕ
+abbrev pub field_for : Table → Fields ℕ → ℕ
 field_for opcode f = f.op
 field_for function f = f.funct
 field_for condition f = f.rt
@@ -122,18 +122,18 @@ bits_of function = 6
 bits_of condition = 5
 bits_of control = 5
 
-abbrev pub place_in : Table → Fields → Place
+abbrev pub place_in : Table → Fields ℕ → Place
 place_in t f = record { table = t; index = field_for t f }
 
 -- from the table by the opcode to the one that its entry names; where it names none, the place stays
-abbrev pub followed : Entry → Fields → Place
+abbrev pub followed : Entry → Fields ℕ → Place
 followed Empty f = place_in opcode f
 followed Special f = place_in function f
 followed Regimm f = place_in condition f
 followed Cop0 f = place_in control f
 followed (Holds k) f = place_in opcode f
 
-unfoldable pub place_of : Fields → Place
+unfoldable pub place_of : Fields ℕ → Place
 place_of f = followed (entry_at (place_in opcode f)) f
 
 -- ---- the kind that an entry holds
@@ -146,7 +146,7 @@ kind_in Cop0 = None
 kind_in (Holds k) = Some k
 
 -- the kind that stands where the fields lead: what the word is, if an instruction at all, since the other fields are not looked at
-unfoldable pub entry_of : Fields → Option Kind
+unfoldable pub entry_of : Fields ℕ → Option Kind
 entry_of f = kind_in (entry_at (place_of f))
 
 -- ---- "each of the 72 instructions has exactly one entry": there is one, and any two places that hold it, of all four tables, are the same place

@@ -3,9 +3,8 @@
 
 ghost use Rattle.std.specs.Prelude.{◌≡◌, ◌++◌, get_or};
 ghost use Rattle.word.specs.Field.{cut_of};
-ghost use Rattle.word.specs.Number.{difference_of};
 ghost use Rattle.table.specs.declared.tables.Entry.TheVariants.{Empty};
-ghost use Rattle.table.specs.Tables.{entry_of};
+ghost use Rattle.table.specs.Tables.{opcodes, functions, conditions, controls, entry_of};
 
 use crate::tables::*;
 use isa::kind::Kind;
@@ -13,14 +12,13 @@ use word::field::Fields;
 
 pub mod tables;
 
-// The entry at place n of a table whose places begin at `from`, or `other` where it has no such place. A line for each place and no index: the
-// compiler makes of table and match one jump; with static arrays that are indexed, cc100_read took 1.2 to 1.8 times the time.
+// The entry at place n of a table, or `other` where it has no such place. A line for each place and no index: the compiler makes of table and match
+// one jump; with static arrays that are indexed, cc100_read took 1.2 to 1.8 times the time.
 #[inline(always)]
-fn entry_at(t: [Entry; 32], from: u32, n: u32, other: Entry) -> Entry
-    ensures { result ≡ get_or t (difference_of n from) other }
+fn entry_at(t: [Entry; 32], n: u32, other: Entry) -> Entry
+    ensures { result ≡ get_or t n other }
 {
-    let place = word::number::difference(n, from);
-    match place {
+    match n {
         0 => t[0],
         1 => t[1],
         2 => t[2],
@@ -62,8 +60,36 @@ fn entry_at(t: [Entry; 32], from: u32, n: u32, other: Entry) -> Entry
 fn entry_in(low: [Entry; 32], high: [Entry; 32], n: u32) -> Entry
     ensures { result ≡ get_or (low ++ high) n Empty }
 {
-    let beyond = entry_at(high, 32, n, Entry::Empty);
-    entry_at(low, 0, n, beyond)
+    let beyond = entry_at(high, n.wrapping_sub(32), Entry::Empty);
+    entry_at(low, n, beyond)
+}
+
+#[tactic(auto, unfolding(crate::specs::Tables::opcodes))]
+fn by_opcode(n: u32) -> Entry
+    ensures { result ≡ get_or opcodes n Empty }
+{
+    entry_in(OPCODES_LOW, OPCODES_HIGH, n)
+}
+
+#[tactic(auto, unfolding(crate::specs::Tables::functions))]
+fn by_function(n: u32) -> Entry
+    ensures { result ≡ get_or functions n Empty }
+{
+    entry_in(FUNCTIONS_LOW, FUNCTIONS_HIGH, n)
+}
+
+#[tactic(auto, unfolding(crate::specs::Tables::conditions))]
+fn by_condition(n: u32) -> Entry
+    ensures { result ≡ get_or conditions n Empty }
+{
+    entry_at(CONDITIONS, n, Entry::Empty)
+}
+
+#[tactic(auto, unfolding(crate::specs::Tables::controls))]
+fn by_control(n: u32) -> Entry
+    ensures { result ≡ get_or controls n Empty }
+{
+    entry_at(CONTROLS, n, Entry::Empty)
 }
 
 // The kind whose place a word leads to, if any. What its other fields must be is not looked at.
@@ -71,11 +97,11 @@ pub fn entry(w: u32) -> Option<Kind>
     ensures { result ≡ entry_of (cut_of w) }
 {
     let f = Fields::from(w);
-    let first = entry_in(OPCODES_LOW, OPCODES_HIGH, f.op);
+    let first = by_opcode(f.op);
     let last = match first {
-        Entry::Special => entry_in(FUNCTIONS_LOW, FUNCTIONS_HIGH, f.funct),
-        Entry::Regimm => entry_at(CONDITIONS, 0, f.rt, Entry::Empty),
-        Entry::Cop0 => entry_at(CONTROLS, 0, f.rs, Entry::Empty),
+        Entry::Special => by_function(f.funct),
+        Entry::Regimm => by_condition(f.rt),
+        Entry::Cop0 => by_control(f.rs),
         _ => first,
     };
     last.kind()

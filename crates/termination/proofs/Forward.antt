@@ -2,14 +2,13 @@
 -- that bundle's start.
 use Prim.Native.Nat.{ℕ, ◌+◌, ◌-◌, ◌*◌, ◌%◌, ◌≤◌, ◌<◌}
 use mathlib.Core.Path.{◌≡◌, refl, sym, ap, subst, ◌∙◌}
-use mathlib.Core.Bool.{not, ◌&&◌, false≢true}
+use mathlib.Core.Bool.{false≢true}
 use mathlib.Core.Logic.{◌⊎◌, inl, inr, ⊎_elim}
 use mathlib.Core.List.{List}
 use native.Mathlib.Omega.{arith}
 use native.Mathlib.Decide.{dec_lt}
-use lib.Dec.{eqb}
 use lib.ListN.{length}
-use Rattle.word.proofs.Choice.{by_test}
+use Rattle.std.specs.Prelude.{Result}
 use Rattle.isa.specs.declared.kind.System.TheVariants.{Syscall}
 use Rattle.isa.specs.declared.kind.Kind.{Kind}
 use Rattle.isa.specs.declared.kind.Kind.TheVariants as K
@@ -18,8 +17,10 @@ use Rattle.class.specs.declared.Flow.{Flow}
 use Rattle.class.specs.declared.Flow.TheVariants.{Onward, Relative, Region, Register}
 use Rattle.branch.specs.Branch.{slot_of, relative_of, region_of}
 use Rattle.effect.specs.declared.effect.Effect.{Effect}
-use Rattle.effect.specs.Exit.{exit_of}
-use Rattle.system.specs.System.{is_user, system_call_of}
+use Rattle.effect.specs.declared.exit.Exit.{Exit}
+use Rattle.effect.specs.Exit.{number_of}
+use Rattle.effect.proofs.Exits.{number_range}
+use Rattle.system.specs.System.{system_call_of}
 use Rattle.decision.specs.Decision.{by_kind, decision_of}
 use Rattle.layout.specs.declared.Layout.{Layout}
 use Rattle.view.specs.View.{is_relative, is_region}
@@ -27,7 +28,7 @@ use Rattle.rules.specs.Not.{Not}
 use Rattle.machine.specs.declared.state.State.{State}
 use Rattle.machine.specs.State.{register_of, special_of}
 use Rattle.machine.specs.Resume.{resumed_of}
-use Rattle.machine.specs.Step.{effect_of, Outcome, try_of, step_of}
+use Rattle.machine.specs.Step.{effect_of, Outcome, tried_of, try_of, step_of}
 use Rattle.checker.specs.Lawful.{Stands, flow_of, Branches, AtTarget, words_in, Lawful}
 use Rattle.straight.specs.Straight.{Ahead, Excused, Straight}
 use Rattle.confinement.proofs.ByKind.{Leads, Idle}
@@ -35,11 +36,6 @@ use Rattle.confinement.proofs.Areas.{code_bundles}
 use Rattle.confinement.proofs.Invariant.{Inside, stands_once}
 use Rattle.confinement.proofs.Steps.{in_code, here, stands_here, effect_is, step_is}
 use Rattle.confinement.proofs.Keeps.{slot_is, moved, step_inside, resumed_inside}
-
--- a System Call exits, whatever its code and mode
-call_exits : (code status : ℕ) → Not (exit_of (system_call_of code status) ≡ 0)
-unfolding system_call_of
-call_exits code status = by_test (λ (e : Effect). Not (exit_of e ≡ 0)) (eqb code 15 && not (is_user status)) (λ _ z. omega (arith, z)) (λ _ z. omega (arith, z))
 
 module _ (l : Layout) (len : ℕ) (img : List ℕ) (ok : Lawful l len img) (straight : Straight l img) where
   -- the last bundle's first word
@@ -80,18 +76,20 @@ module _ (l : Layout) (len : ℕ) (img : List ℕ) (ok : Lawful l len img) (stra
 
     -- ---- the last bundle's first word exits
 
-    by_kind_law : (k : Kind) → x.kind ≡ k → (step_of s m).number ≡ exit_of (by_kind k x base (register_of s.registers x.rt) (special_of s) (length m))
+    by_kind_law : (k : Kind) → x.kind ≡ k → (step_of s m).number ≡ (tried_of (by_kind k x base (register_of s.registers x.rt) (special_of s) (length m)) s m).number
     unfolding try_of effect_of decision_of
     by_kind_law k e =
         ap (λ (o : Outcome). o.number) (step_is l len img ok s m v)
-        ∙ ap exit_of (effect_is l len img ok s m v)
-        ∙ ap (λ (y : Kind). exit_of (by_kind y x base (register_of s.registers x.rt) (special_of s) (length m))) e
+        ∙ ap (λ (d : Result Effect Exit). (tried_of d s m).number) (effect_is l len img ok s m v)
+        ∙ ap (λ (y : Kind). (tried_of (by_kind y x base (register_of s.registers x.rt) (special_of s) (length m)) s m).number) e
 
     pub end_exits : i ≡ end → Not ((step_of s m).number ≡ 0)
     end_exits e z =
         let (y, (p, (k, _))) = straight.r21.0 in
         let same : y ≡ x = stands_once img i y x (subst (λ (n : ℕ). Stands img n y) (sym e) p) stands in
-        call_exits x.value s.special.status (sym (by_kind_law (K.System Syscall) (ap (λ (w : Instruction). w.kind) (sym same) ∙ k)) ∙ z)
+        let q = by_kind_law (K.System Syscall) (ap (λ (w : Instruction). w.kind) (sym same) ∙ k) in
+        let n : number_of (system_call_of x.value s.special.status) ≡ 0 = sym q ∙ z in
+        omega (arith, n, (number_range (system_call_of x.value s.special.status)).0)
 
     -- ---- a completed step
 

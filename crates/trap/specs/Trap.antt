@@ -1,18 +1,19 @@
 -- Document 004, section 1.1.9: traps, each beside its Operation in 1.2. a is GPR[rs], b is GPR[rt]; TLTU and TNE compare rs with rt (document 01, Machine).
-use Rattle.std.specs.Prelude.{ℕ, Bool, cond, not, eqb, ltb, leb}
+use Rattle.std.specs.Prelude.{ℕ, Bool, cond, not, eqb, ltb, leb, Result, Ok, Err}
 use Rattle.std.specs.Int.Signed.{lt_z, le_z}
 use Rattle.word.specs.Number.{signed_of, extend_of}
 use Rattle.isa.specs.declared.kind.Trap.{Trap}
 use Rattle.isa.specs.declared.kind.Trap.TheVariants.{Tge, Tgeu, Tlt, Tltu, Teq, Tne, Tgei, Tgeiu, Tlti, Tltiu, Teqi, Tnei}
 use Rattle.effect.specs.declared.effect.Effect.{Effect}
-use Rattle.effect.specs.declared.effect.Effect.TheVariants.{Exit, Advance}
+use Rattle.effect.specs.declared.effect.Effect.TheVariants.{Advance}
+use Rattle.effect.specs.declared.exit.Exit.{Exit}
 use Rattle.effect.specs.declared.exit.Exit.TheVariants as E
 
-unfoldable pub trap_if : Bool → Effect
-trap_if t = cond t (Exit E.Trap) Advance
+unfoldable pub trap_if : Bool → Result Effect Exit
+trap_if t = cond t (Err E.Trap) (Ok Advance)
 
 -- the constants of TGEIU and TLTIU too are sign-extended (document 01, Traps for the builder); TEQ, TNE, TEQI and TNEI compare words, which are equal exactly where their signed integers are
-abbrev pub trap_of : Trap → ℕ → ℕ → ℕ → Effect
+abbrev pub trap_of : Trap → ℕ → ℕ → ℕ → Result Effect Exit
 trap_of Tge a b v = trap_if (le_z (signed_of 32 b) (signed_of 32 a))
 trap_of Tgeu a b v = trap_if (leb b a)
 trap_of Tlt a b v = trap_if (lt_z (signed_of 32 a) (signed_of 32 b))

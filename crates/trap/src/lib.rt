@@ -9,18 +9,18 @@ use effect::exit::Exit;
 use isa::kind::Trap;
 
 #[tactic(auto, unfolding(crate::specs::Trap::trap_if))]
-fn trap_if(t: bool) -> Effect
+fn trap_if(t: bool) -> Result<Effect, Exit>
     ensures { result ≡ Spec.trap_if t }
 {
     if t {
-        Effect::Exit(Exit::Trap)
+        Err(Exit::Trap)
     } else {
-        Effect::Advance
+        Ok(Effect::Advance)
     }
 }
 
 #[tactic(auto, using(signed::proofs::Words::casts))]
-pub fn trap(k: Trap, a: u32, b: u32, v: u32) -> Effect
+pub fn trap(k: Trap, a: u32, b: u32, v: u32) -> Result<Effect, Exit>
     ensures { result ≡ Spec.trap_of k a b v }
 {
     let x = word::number::extend::<16>(v);

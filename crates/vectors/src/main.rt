@@ -2,31 +2,15 @@
 // A case is seven little-endian words: 0 and a word to be read, or 1 and kind, rs, rt, rd, shift and value to be written.
 #![tactic(auto)]
 
-ghost use Rattle.std.specs.Prelude.{◌≤◌, length};
-
 use cc100_instruction::{cc100_read, cc100_write};
 use std::io;
 use std::io::Write;
-use word::bytes::load;
+use word::bytes::words;
 
 // More input is not read, in bytes.
 const LONGEST_INPUT: usize = 65536;
 
 const CASE: usize = 28;
-
-fn words_of(case: &[u8]) -> [u32; 7]
-    requires { CASE ≤ length case.now }
-{
-    [
-        load::<4>(case, 0),
-        load::<4>(case, 4),
-        load::<4>(case, 8),
-        load::<4>(case, 12),
-        load::<4>(case, 16),
-        load::<4>(case, 20),
-        load::<4>(case, 24),
-    ]
-}
 
 fn run_case(out: &mut impl Write, case: [u32; 7]) -> io::Result<()> {
     match case {
@@ -51,7 +35,7 @@ fn run_case(out: &mut impl Write, case: [u32; 7]) -> io::Result<()> {
 
 fn run_cases(out: &mut impl Write, cases: &[u8]) -> io::Result<()> {
     for case in cases.chunks_exact(CASE) {
-        run_case(out, words_of(case))?;
+        run_case(out, words(case, 0))?;
     }
     Ok(())
 }

@@ -2,18 +2,20 @@
 // the number of the rule, and the index of the word where it is broken or - where there is none.
 #![tactic(auto)]
 
-ghost use Rattle.std.specs.Prelude.{◌≡◌, ◌≤◌, length};
+ghost use Rattle.std.specs.Prelude.{◌≡◌, ◌<◌, ◌^◌, length};
 ghost use Rattle.checker.specs.Said.{verdict_of};
 ghost use Rattle.verdict.specs.Program as Spec;
 
 use checker::verdict::Refused;
 use layout::Layout;
-use refusal::Refusal;
 use std::io::Write;
 use std::{fmt, io};
 
 // The longest module, in bytes.
 const LONGEST_MODULE: usize = 65536;
+
+// One byte more, by which a longer input is told.
+const SPACE: usize = LONGEST_MODULE + 1;
 
 // What is said of a module of so many words.
 #[derive(Clone, Copy)]
@@ -37,15 +39,12 @@ impl fmt::Display for Answer {
     }
 }
 
-// more is how many bytes the try for one more found.
-#[tactic(auto, unfolding(crate::specs::Program::verdict_of))]
-fn judge(image: &[u8], more: usize) -> Result<(), Refused>
-    requires { length image.now ≤ 65536 }
-    ensures { verdict_of result ≡ Spec.verdict_of image.now more }
+// The module's length is its code size: a longer input than the longest module is no code size.
+#[tactic(auto, using(crate::proofs::Program::judged))]
+fn judge(image: &[u8]) -> Result<(), Refused>
+    requires { length image.now < 2 ^ 32 }
+    ensures { verdict_of result ≡ Spec.verdict_of image.now }
 {
-    if more != 0 {
-        return Err(Refused::from(Refusal::CodeSize));
-    }
     let layout = Layout {
         code_base: 0x10000,
         code_size: image.len() as u32,
@@ -56,11 +55,8 @@ fn judge(image: &[u8], more: usize) -> Result<(), Refused>
 }
 
 fn main(rt: HostRuntime) -> io::Result<()> {
-    let mut input = rt.stdin();
-    let mut space = [0u8; LONGEST_MODULE];
-    let n = input::read_full(&mut input, &mut space)?;
-    let mut one = [0u8; 1];
-    let more = input::read_full(&mut input, &mut one)?;
-    let said = judge(&space[..n], more);
+    let mut space = [0u8; SPACE];
+    let n = input::read_full(&mut rt.stdin(), &mut space)?;
+    let said = judge(&space[..n]);
     writeln!(rt.stdout(), "{}", Answer { said, words: n / 4 })
 }

@@ -1,5 +1,5 @@
 -- What the checker's rules look at in a word. The name is ours: document 01 names the instructions one by one.
-use Rattle.std.specs.Prelude.{ℕ, Bool, true, false, not, ◌&&◌, ◌||◌, eqb, Option, Some, None}
+use Rattle.std.specs.Prelude.{ℕ, Bool, true, false, not, ◌&&◌, ◌||◌, eqb, Option, Some, None, is_some}
 use Rattle.isa.specs.declared.kind.System.{System}
 use Rattle.isa.specs.declared.kind.System.TheVariants.{Syscall, Break, Rfe, Mfc0, Mtc0, Sync}
 use Rattle.isa.specs.declared.kind.Kind.{Kind}
@@ -102,7 +102,7 @@ by_register v = is_register v.flow
 
 -- an access, JR or JALR
 abbrev pub needs_guard : View → Bool
-needs_guard v = not (eqb v.width 0) || is_register v.flow
+needs_guard v = is_some v.width || is_register v.flow
 
 -- the registers that hold the bases of data and code
 abbrev pub is_base : ℕ → Bool
@@ -110,4 +110,4 @@ is_base r = eqb r 26 || eqb r 27
 
 -- plain, a name of ours: an instruction that breaks none of 8 to 15, wherever it stands
 abbrev pub is_plain : View → Bool
-is_plain v = not v.barred && (not (is_base v.written) && (not v.link && (eqb v.width 0 && not (is_branch v))))
+is_plain v = not v.barred && (not (is_base v.written) && (not v.link && (not (is_some v.width) && not (is_branch v))))

@@ -4,7 +4,7 @@
 ghost use Rattle.std.specs.Prelude.{◌≡◌};
 ghost use Rattle.view.specs.View as Spec;
 
-use class::{Flow, class_of, named};
+use class::{Flow, Width, class_of, named};
 use isa::kind::{Instruction, Kind, System};
 
 #[derive(Clone, Copy)]
@@ -14,8 +14,8 @@ pub struct View {
     pub flow: Flow,
     // leaves a link
     pub link: bool,
-    // Bytes loaded or stored; 0: not an access. A number and no Option, which is no plainer: the rules add it up as it is.
-    pub width: u32,
+    // None: not an access.
+    pub width: Option<Width>,
     // The register written; 0, which takes no write, where there is none.
     pub written: u32,
     pub rs: u32,

@@ -6,7 +6,7 @@ use Rattle.word.specs.Field.{cut_of, join_of, Fit}
 use Rattle.word.specs.declared.field.Fields.{Fields}
 use Rattle.word.proofs.Bits.{below, shifted_below}
 
-pub join_or : (f : Fields) → Fit f
+pub join_or : (f : Fields ℕ) → Fit f
     → bit_or (bit_or (bit_or (bit_or (bit_or (f.op * 2 ^ 26 % 2 ^ 32) (f.rs * 2 ^ 21 % 2 ^ 32)) (f.rt * 2 ^ 16 % 2 ^ 32)) (f.rd * 2 ^ 11 % 2 ^ 32)) (f.shift * 2 ^ 6 % 2 ^ 32)) f.funct ≡ join_of f
 join_or f h =
     let op : f.op * 2 ^ 26 % 2 ^ 32 ≡ f.op * 2 ^ 26 = omega (arith, h.op) in
@@ -27,7 +27,7 @@ join_cut w =
     (mod-pow-add w 5 11 ∙ ap (λ (x : ℕ). w / 2 ^ 11 % 2 ^ 5 * 2 ^ 11 + x) (mod-pow-add w 5 6)))))
     ∙ split w 26
 
-pub cut_join : (f : Fields) → Fit f → cut_of (join_of f) ≡ f
+pub cut_join : (f : Fields ℕ) → Fit f → cut_of (join_of f) ≡ f
 cut_join f h = λ i. record { op = at_op i; rs = at_rs i; rt = at_rt i; rd = at_rd i; shift = at_shift i; funct = at_funct i }
   where
     at_op : join_of f / 2 ^ 26 ≡ f.op

@@ -1,6 +1,6 @@
 -- Laws of numbers in memory, over the width.
-use Rattle.std.proofs.Common.{◌≡◌, ℕ, zero, suc, ◌+◌, ◌*◌, ◌/◌, ◌%◌, ◌^◌, ◌<◌, ◌≤◌, List, [], ◌∷◌, ◌++◌, length, get_or, set, take, drop, refl, ◌∙◌, pow-suc, arith, length-set, get_or-set_other, get_or-set_same, shr-shr}
-use Rattle.std.specs.Int.{w32, to_le_bytes}
+use Rattle.std.proofs.Common.{◌≡◌, ℕ, zero, suc, ◌+◌, ◌-◌, ◌*◌, ◌/◌, ◌%◌, ◌^◌, ◌<◌, ◌≤◌, List, [], ◌∷◌, ◌++◌, length, get_or, set, take, drop, refl, ◌∙◌, pow-suc, arith, length-set, get_or-set_other, get_or-set_same, shr-shr}
+use Rattle.std.specs.Int.{w32, to_le_bytes, from_le_bytes}
 use Rattle.std.proofs.lemmas.List.{append_assoc, drop_more, drop-set-lt, take_more_set, take-append-drop}
 use Rattle.word.specs.Bytes.{load_of, store_of}
 
@@ -49,20 +49,6 @@ load_lt (suc n) m a b =
     let first : get_or m a 0 < 2 ^ 8 = b a in
     rw (pow-suc 256 n) (omega arith)
 
-pub pow_three : (k : ℕ) → k < 4 → 256 ^ k ≤ 2 ^ 24
-pow_three zero h = omega arith
-pow_three (suc zero) h = omega arith
-pow_three (suc (suc zero)) h = omega arith
-pow_three (suc (suc (suc zero))) h = omega arith
-pow_three (suc (suc (suc (suc k)))) h = omega arith
-
--- above three bytes at most there is room in a word for one more
-pub load_three : (k : ℕ) (m : List ℕ) (a : ℕ) → k < 4 → ((i : ℕ) → get_or m i 0 < 2 ^ 8) → 256 * load_of k m a + 255 < 2 ^ 32
-load_three k m a h b =
-    let low : load_of k m a < 256 ^ k = load_lt k m a b in
-    let most : 256 ^ k ≤ 2 ^ 24 = pow_three k h in
-    omega arith
-
 -- what holds of every element and of the new one holds after it is set
 pub set_every : (P : ℕ → Type 0) (l : List ℕ) (a v : ℕ) → P v → ((i : ℕ) → P (get_or l i 0)) → (i : ℕ) → P (get_or (set l a v) i 0)
 set_every P [] a v h b i = b i
@@ -103,3 +89,24 @@ store_written (suc n) m a v h =
 
 pub store_copied : (n : ℕ) (m : List ℕ) (a v : ℕ) → a + n ≤ length m → n ≤ 4 → take a m ++ (take n (to_le_bytes w32 v) ++ drop n (drop a m)) ≡ store_of n m a v
 store_copied n m a v h k = rw (bytes_taken n v k) (store_written n m a v h)
+
+-- the n bytes from a on
+abbrev bytes_at : ℕ → List ℕ → ℕ → List ℕ
+bytes_at zero m a = []
+bytes_at (suc n) m a = get_or m a 0 ∷ bytes_at n m (a + 1)
+
+part_is : (n : ℕ) (m : List ℕ) (a : ℕ) → a + n ≤ length m → take n (drop a m) ≡ bytes_at n m a
+part_is zero m a h = refl
+part_is (suc n) m a h = rw (drop_more m a 0 (omega arith), part_is n m (a + 1) (omega arith))
+
+widened : (n : ℕ) (m : List ℕ) (a : ℕ) → n ≤ 4 → from_le_bytes w32 (bytes_at n m a ++ drop n (0 ∷ 0 ∷ 0 ∷ 0 ∷ [])) ≡ load_of n m a
+widened zero m a h = refl
+widened (suc zero) m a h = omega arith
+widened (suc (suc zero)) m a h = omega arith
+widened (suc (suc (suc zero))) m a h = omega arith
+widened (suc (suc (suc (suc zero)))) m a h = omega arith
+widened (suc (suc (suc (suc (suc n))))) m a h = absurd (omega arith)
+
+-- n bytes, and zeros for what a word has more
+pub load_copied : (n : ℕ) (m : List ℕ) (a : ℕ) → a + n ≤ length m → n ≤ 4 → from_le_bytes w32 (take (a + n - a) (drop a m) ++ drop n (0 ∷ 0 ∷ 0 ∷ 0 ∷ [])) ≡ load_of n m a
+load_copied n m a h k = let e : a + n - a ≡ n = omega arith in rw (e, part_is n m a h) (widened n m a k)

@@ -2,7 +2,7 @@
 use Rattle.std.specs.Prelude.{ℕ, ◌+◌, ◌*◌, ◌/◌, ◌%◌, ◌^◌, ◌<◌}
 use Rattle.word.specs.declared.field.Fields.{Fields}
 
-abbrev pub cut_of : ℕ → Fields
+abbrev pub cut_of : ℕ → Fields ℕ
 cut_of w =
     record {
       op = w / 2 ^ 26;
@@ -13,11 +13,11 @@ cut_of w =
       funct = w % 2 ^ 6;
     }
 
-abbrev pub join_of : Fields → ℕ
+abbrev pub join_of : Fields ℕ → ℕ
 join_of f = f.op * 2 ^ 26 + (f.rs * 2 ^ 21 + (f.rt * 2 ^ 16 + (f.rd * 2 ^ 11 + (f.shift * 2 ^ 6 + f.funct))))
 
 -- each field has no more bits than its place
-pub record Fit (f : Fields) : Type 0 where
+pub record Fit (f : Fields ℕ) : Type 0 where
   pub op : f.op < 2 ^ 6
   pub rs : f.rs < 2 ^ 5
   pub rt : f.rt < 2 ^ 5

@@ -1,27 +1,39 @@
 // Numbers of up to four bytes in a slice, little-endian.
-ghost use Rattle.std.specs.Prelude.{◌≡◌, ◌+◌, ◌^◌, ◌<◌, ◌≤◌, length};
-ghost use Rattle.word.specs.Bytes.{load_of, store_of};
+ghost use Rattle.std.specs.Prelude.{◌≡◌, ◌+◌, ◌*◌, ◌^◌, ◌<◌, ◌≤◌, length};
+ghost use Rattle.word.specs.Bytes.{load_of, store_of, words_at};
 
 // The longest memory, in bytes.
 pub const LONGEST: usize = 16777216;
 
+// N is at most 4, so that the number is a word.
 pub fn load<const N: usize>(s: &[u8], at: usize) -> u32
     requires within { at + N ≤ length s.now }
     requires width { N ≤ 4 }
     ensures value { result ≡ load_of N s.now at }
     ensures bound { result < 256 ^ N }
 {
-    let mut value = 0;
-    for k in 0..N {
-        value = 256 * value + u32::from(s[at + N - 1 - k]);
-    }
-    value
+    let mut word = [0; 4];
+    word[..N].copy_from_slice(&s[at..at + N]);
+    u32::from_le_bytes(word)
 }
 
+// N is at most 4, as many as a word has.
 pub fn store<const N: usize>(s: &mut [u8], at: usize, v: u32)
     requires within { at + N ≤ length s.old }
     requires width { N ≤ 4 }
     ensures { s.new ≡ store_of N s.old at v }
 {
     s[at..at + N].copy_from_slice(&v.to_le_bytes()[..N]);
+}
+
+// N words, one after another.
+pub fn words<const N: usize>(bytes: &[u8], at: usize) -> [u32; N]
+    requires { at + 4 * N ≤ length bytes.now }
+    ensures { result ≡ words_at N bytes.now at }
+{
+    let mut words = [0; N];
+    for k in 0..N {
+        words[k] = load::<4>(bytes, at + 4 * k);
+    }
+    words
 }

@@ -2,16 +2,16 @@
 ghost use Rattle.std.specs.Prelude.{◌≡◌, ◌+◌, ◌-◌, ◌*◌, ◌^◌, ◌<◌};
 
 #[derive(Clone, Copy)]
-pub struct Fields {
-    pub op: u32,
-    pub rs: u32,
-    pub rt: u32,
-    pub rd: u32,
-    pub shift: u32,
-    pub funct: u32,
+pub struct Fields<T> {
+    pub op: T,
+    pub rs: T,
+    pub rt: T,
+    pub rd: T,
+    pub shift: T,
+    pub funct: T,
 }
 
-impl Fields {
+impl Fields<u32> {
     ghost use Rattle.word.specs.Field.{join_of, Fit};
 
     // Fit is a clause and no ghost field: fields too wide for their places are made too, of an instruction that is then not written.
@@ -29,12 +29,12 @@ impl Fields {
     }
 }
 
-impl From<u32> for Fields {
+impl From<u32> for Fields<u32> {
     ghost use Rattle.word.specs.Field.{cut_of, Fit};
 
     ghost from_gives = { λ w f. (f ≡ cut_of w) × Fit f };
 
-    fn from(w: u32) -> Fields {
+    fn from(w: u32) -> Fields<u32> {
         Fields {
             op: w >> 26,
             rs: (w >> 21) & 31,
@@ -46,7 +46,7 @@ impl From<u32> for Fields {
     }
 }
 
-// A number with a field of BITS bits put below it.
+// A number with a field of BITS bits put below it. BITS is below 32, as no shift is by a whole word.
 #[tactic(auto, using(crate::proofs::Bits::append))]
 pub fn append<const BITS: u32>(v: u32, x: u32) -> u32
     requires width { BITS < 32 }

@@ -1,4 +1,4 @@
-// 32-bit words: their fields, sign extension and wrapping arithmetic, and their bytes in a slice.
+// 32-bit words: their fields, sign extension, and their bytes in a slice.
 #![tactic(auto)]
 
 pub mod bytes;

@@ -4,9 +4,9 @@
 ghost use Rattle.std.specs.Prelude.{◌≡◌, ◌<◌};
 ghost use Rattle.isa.specs.Writing.{operand_fits, field_of, rest, rest_rs, encode_of, legal, write_of};
 
+use isa::control::Control;
 use isa::format::{Drawing, Role};
 use isa::kind::Instruction;
-use isa::reading::is_control;
 use word::field::Fields;
 
 fn operand_fits(role: Role, x: u32) -> bool
@@ -14,12 +14,12 @@ fn operand_fits(role: Role, x: u32) -> bool
 {
     match role {
         Role::Operand => x < 32,
-        Role::Control => is_control(x),
+        Role::Control => Control::try_from(x).is_ok(),
         Role::Fixed(_) | Role::Code | Role::Part => x == 0,
     }
 }
 
-// The field of BITS bits: the operand, the fixed number, the code, or the lowest part of the value.
+// The field of BITS bits: the operand, the fixed number, the code, or the lowest part of the value. BITS is below 32, as no shift is by a whole word.
 fn field<const BITS: u32>(role: Role, code: u32, v: u32, x: u32) -> u32
     requires { BITS < 32 }
     ensures { result ≡ field_of role code BITS v x }
@@ -45,7 +45,7 @@ fn rest_of<const BITS: u32>(role: Role, v: u32) -> u32
 
 #[derive(Clone, Copy)]
 struct Encoded {
-    fields: Fields,
+    fields: Fields<u32>,
     rest: u32,
 }
 
@@ -70,26 +70,22 @@ fn encode(d: Drawing, code: u32, i: Instruction) -> Encoded
     }
 }
 
+#[tactic(auto, unfolding(isa::specs::Writing::legal))]
 fn is_legal(d: Drawing, i: Instruction, rest: u32) -> bool
     requires { rest ≡ rest_rs d i.value }
     ensures { result ≡ legal d i }
 {
-    let a = operand_fits(d.rs, i.rs);
-    let b = operand_fits(d.rt, i.rt);
-    let c = operand_fits(d.rd, i.rd);
-    let e = operand_fits(d.shift, i.shift);
-    a & (b & (c & (e & (rest == 0))))
+    operand_fits(d.rs, i.rs)
+        && operand_fits(d.rt, i.rt)
+        && operand_fits(d.rd, i.rd)
+        && operand_fits(d.shift, i.shift)
+        && rest == 0
 }
 
 pub fn write(i: Instruction) -> Option<u32>
     ensures { result ≡ write_of i }
 {
-    let shape = i.kind.shape();
-    let d = shape.format.drawing();
-    let e = encode(d, shape.code, i);
-    if is_legal(d, i, e.rest) {
-        Some(e.fields.join())
-    } else {
-        None
-    }
+    let d = i.kind.format().drawing();
+    let e = encode(d, i.kind.code(), i);
+    is_legal(d, i, e.rest).then(|| e.fields.join())
 }
