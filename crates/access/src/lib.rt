@@ -4,9 +4,10 @@
 ghost use Rattle.std.specs.Prelude.{◌≡◌, ◌<◌, ◌≤◌, cond, Ok, Err};
 ghost use Rattle.access.specs.Access as Spec;
 
-use effect::effect::Effect;
+use effect::effect::{Effect, Extension};
 use effect::exit::Exit;
 use isa::kind::Access;
+use refusal::Ending;
 
 #[tactic(auto, unfolding(crate::specs::Access::address_of))]
 fn address(base: u32, offset: u32) -> u32
@@ -15,7 +16,7 @@ fn address(base: u32, offset: u32) -> u32
     base.wrapping_add(word::number::extend::<16>(offset))
 }
 
-// The address, where the N bytes at it can be accessed.
+// The address, where the N bytes at it can be accessed. What N may be is asked of it, as no type of a const parameter holds bounds.
 #[tactic(auto, unfolding(crate::specs::Access::reaches))]
 fn reached<const N: usize>(at: u32, n: usize, exit: Exit) -> Result<u32, Exit>
     requires some { 0 < N }
@@ -23,11 +24,8 @@ fn reached<const N: usize>(at: u32, n: usize, exit: Exit) -> Result<u32, Exit>
     ensures { result ≡ cond (Spec.reaches N at n) (Ok at) (Err exit) }
 {
     let first = at as usize;
-    if (first % N == 0) & (first + N <= n) {
-        Ok(at)
-    } else {
-        Err(exit)
-    }
+    exit.when((first % N != 0) | (n < first + N))?;
+    Ok(at)
 }
 
 #[tactic(auto, unfolding(crate::specs::Access::conditional))]
@@ -55,11 +53,11 @@ pub fn access(
 {
     let at = address(a, v);
     Ok(match k {
-        Access::Lb => Effect::LoadByte(rt, reached::<1>(at, n, Exit::Load)?, true),
-        Access::Lbu => Effect::LoadByte(rt, reached::<1>(at, n, Exit::Load)?, false),
+        Access::Lb => Effect::LoadByte(rt, reached::<1>(at, n, Exit::Load)?, Extension::Sign),
+        Access::Lbu => Effect::LoadByte(rt, reached::<1>(at, n, Exit::Load)?, Extension::Zero),
         Access::Sb => Effect::StoreByte(reached::<1>(at, n, Exit::Store)?, b),
-        Access::Lh => Effect::LoadHalf(rt, reached::<2>(at, n, Exit::Load)?, true),
-        Access::Lhu => Effect::LoadHalf(rt, reached::<2>(at, n, Exit::Load)?, false),
+        Access::Lh => Effect::LoadHalf(rt, reached::<2>(at, n, Exit::Load)?, Extension::Sign),
+        Access::Lhu => Effect::LoadHalf(rt, reached::<2>(at, n, Exit::Load)?, Extension::Zero),
         Access::Sh => Effect::StoreHalf(reached::<2>(at, n, Exit::Store)?, b),
         Access::Lw => Effect::LoadWord(rt, reached::<4>(at, n, Exit::Load)?),
         Access::Sw => Effect::StoreWord(reached::<4>(at, n, Exit::Store)?, b),

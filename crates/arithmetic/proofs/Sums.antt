@@ -1,5 +1,5 @@
 -- A checked sum is written, or exits.
-use Rattle.std.proofs.Common.{◌≡◌, ℕ, Bool, true, false, cond, ℤ, Option, Some, None, Result, Ok, Err, refl}
+use Rattle.std.proofs.Common.{◌≡◌, ℕ, Bool, true, false, cond, ℤ, Some, None, Result, Ok, Err, refl}
 use Rattle.std.specs.Option.{ok_or}
 use Rattle.word.specs.Number.{fits_of, wrap_of}
 use Rattle.signed.specs.Checked.{checked_of}

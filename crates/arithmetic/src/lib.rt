@@ -11,25 +11,24 @@ use isa::kind::{Alu, Immediate, Multiply, Shift};
 // What a division by zero does.
 const ZERO_DIVISOR: Effect = Effect::Advance;
 
+// A line for each instruction, here and below, as document 004 has them.
 #[tactic(auto, using(crate::proofs::Sums::sum_written, crate::proofs::Sums::sum_exits), unfolding(crate::specs::Arithmetic::bit))]
 pub fn alu(k: Alu, rd: u32, a: u32, b: u32) -> Result<Effect, Exit>
     ensures { result ≡ Spec.alu_of k rd a b }
 {
-    Ok(match k {
-        Alu::Add => Effect::Write(rd, signed::checked_sum(a, b).ok_or(Exit::IntegerOverflow)?),
-        Alu::Addu => Effect::Write(rd, a.wrapping_add(b)),
-        Alu::Sub => Effect::Write(
-            rd,
-            signed::checked_difference(a, b).ok_or(Exit::IntegerOverflow)?,
-        ),
-        Alu::Subu => Effect::Write(rd, a.wrapping_sub(b)),
-        Alu::Slt => Effect::Write(rd, u32::from(signed::less(a, b))),
-        Alu::Sltu => Effect::Write(rd, u32::from(a < b)),
-        Alu::And => Effect::Write(rd, a & b),
-        Alu::Or => Effect::Write(rd, a | b),
-        Alu::Xor => Effect::Write(rd, a ^ b),
-        Alu::Nor => Effect::Write(rd, !(a | b)),
-    })
+    let value = match k {
+        Alu::Add => signed::checked_sum(a, b).ok_or(Exit::IntegerOverflow)?,
+        Alu::Addu => a.wrapping_add(b),
+        Alu::Sub => signed::checked_difference(a, b).ok_or(Exit::IntegerOverflow)?,
+        Alu::Subu => a.wrapping_sub(b),
+        Alu::Slt => u32::from(signed::less(a, b)),
+        Alu::Sltu => u32::from(a < b),
+        Alu::And => a & b,
+        Alu::Or => a | b,
+        Alu::Xor => a ^ b,
+        Alu::Nor => !(a | b),
+    };
+    Ok(Effect::Write(rd, value))
 }
 
 #[tactic(auto, using(crate::proofs::Sums::sum_written, crate::proofs::Sums::sum_exits), unfolding(crate::specs::Arithmetic::bit))]
@@ -37,33 +36,32 @@ pub fn immediate(k: Immediate, rt: u32, a: u32, v: u32) -> Result<Effect, Exit>
     ensures { result ≡ Spec.immediate_of k rt a v }
 {
     let x = word::number::extend::<16>(v);
-    Ok(match k {
-        Immediate::Addi => Effect::Write(
-            rt,
-            signed::checked_sum(a, x).ok_or(Exit::IntegerOverflow)?,
-        ),
-        Immediate::Addiu => Effect::Write(rt, a.wrapping_add(x)),
-        Immediate::Slti => Effect::Write(rt, u32::from(signed::less(a, x))),
-        Immediate::Sltiu => Effect::Write(rt, u32::from(a < x)),
-        Immediate::Andi => Effect::Write(rt, a & (v & 0xFFFF)),
-        Immediate::Ori => Effect::Write(rt, a | (v & 0xFFFF)),
-        Immediate::Xori => Effect::Write(rt, a ^ (v & 0xFFFF)),
-        Immediate::Lui => Effect::Write(rt, v << 16),
-    })
+    let value = match k {
+        Immediate::Addi => signed::checked_sum(a, x).ok_or(Exit::IntegerOverflow)?,
+        Immediate::Addiu => a.wrapping_add(x),
+        Immediate::Slti => u32::from(signed::less(a, x)),
+        Immediate::Sltiu => u32::from(a < x),
+        Immediate::Andi => a & (v & 0xFFFF),
+        Immediate::Ori => a | (v & 0xFFFF),
+        Immediate::Xori => a ^ (v & 0xFFFF),
+        Immediate::Lui => v << 16,
+    };
+    Ok(Effect::Write(rt, value))
 }
 
 #[tactic(auto, unfolding(crate::specs::Arithmetic::shifted_left, crate::specs::Arithmetic::shifted_right, crate::specs::Arithmetic::shifted_signed))]
 pub fn shift(k: Shift, rd: u32, a: u32, b: u32, sa: u32) -> Effect
     ensures { result ≡ Spec.shift_of k rd a b sa }
 {
-    match k {
-        Shift::Sll => Effect::Write(rd, b << (sa % 32)),
-        Shift::Srl => Effect::Write(rd, b >> (sa % 32)),
-        Shift::Sra => Effect::Write(rd, signed::shift_right(b, sa % 32)),
-        Shift::Sllv => Effect::Write(rd, b << (a % 32)),
-        Shift::Srlv => Effect::Write(rd, b >> (a % 32)),
-        Shift::Srav => Effect::Write(rd, signed::shift_right(b, a % 32)),
-    }
+    let value = match k {
+        Shift::Sll => b << (sa % 32),
+        Shift::Srl => b >> (sa % 32),
+        Shift::Sra => signed::shift_right(b, sa % 32),
+        Shift::Sllv => b << (a % 32),
+        Shift::Srlv => b >> (a % 32),
+        Shift::Srav => signed::shift_right(b, a % 32),
+    };
+    Effect::Write(rd, value)
 }
 
 #[tactic(auto, unfolding(crate::specs::Arithmetic::product))]
@@ -73,6 +71,7 @@ fn product(p: u64) -> Effect
     Effect::Pair((p >> 32) as u32, (p & 0xFFFF_FFFF) as u32)
 }
 
+// Each arm names its effect: some write a register, some set HI and LO, and a division by zero does neither.
 #[tactic(auto, unfolding(crate::specs::Arithmetic::divided))]
 pub fn multiply(k: Multiply, rd: u32, a: u32, b: u32, hi: u32, lo: u32) -> Effect
     ensures { result ≡ Spec.multiply_of k rd a b hi lo }

@@ -8,8 +8,11 @@ ghost use Rattle.branch.specs.Branch as Spec;
 use effect::effect::Effect;
 use effect::exit::Exit;
 use isa::kind::Branch;
+use isa::register;
+use refusal::Ending;
 
-// Four more: the delay slot's address, and the program counter's advance.
+// Four more: the delay slot's address, and the program counter's advance. This and `link` are two functions of one shape, as the definition has two
+// names, of 4 and of 8.
 #[tactic(auto, unfolding(crate::specs::Branch::slot_of))]
 pub fn slot(pc: u32) -> u32
     ensures { result ≡ Spec.slot_of pc }
@@ -54,9 +57,9 @@ fn link_if(t: bool, pc: u32, next: u32, offset: u32) -> Effect
     ensures { result ≡ Spec.link_if t pc next offset }
 {
     if t {
-        Effect::Link(31, link(pc), relative(pc, offset))
+        Effect::Link(register::LINK, link(pc), relative(pc, offset))
     } else {
-        Effect::Link(31, link(pc), slot(next))
+        Effect::Link(register::LINK, link(pc), slot(next))
     }
 }
 
@@ -64,11 +67,8 @@ fn link_if(t: bool, pc: u32, next: u32, offset: u32) -> Effect
 fn aligned(target: u32) -> Result<u32, Exit>
     ensures { result ≡ cond (eqb (target % 4) 0) (Ok target) (Err E.Address) }
 {
-    if target % 4 == 0 {
-        Ok(target)
-    } else {
-        Err(Exit::Address)
-    }
+    Exit::Address.when(target % 4 != 0)?;
+    Ok(target)
 }
 
 #[tactic(auto, using(signed::proofs::Words::casts), unfolding(crate::specs::Branch::jump_if))]
@@ -85,7 +85,7 @@ pub fn branch(
 {
     Ok(match k {
         Branch::J => Effect::Jump(region(pc, v)),
-        Branch::Jal => Effect::Link(31, link(pc), region(pc, v)),
+        Branch::Jal => Effect::Link(register::LINK, link(pc), region(pc, v)),
         Branch::Jr => Effect::Jump(aligned(a)?),
         Branch::Jalr => Effect::Link(rd, link(pc), aligned(a)?),
         Branch::Beq => branch_if(a == b, pc, v),

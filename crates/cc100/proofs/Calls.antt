@@ -28,52 +28,29 @@ use Rattle.machine.proofs.Runs.{run_refused, run_numbers}
 use Rattle.machine.proofs.Resumes.{resume_refused, resume_leaves}
 use Rattle.codec.specs.Bytes.{is_state, state_of, bytes_of, decoded_of, encoded, encoded_of}
 use Rattle.codec.proofs.RoundTrip.{state_length, state_typed, bytes_state}
-use Rattle.cc100.specs.Calls.{call_refusal, Answer, step_answer, answer, answered, call_of, step_says, step_call, resume_call, RunAnswer, run_answer, run_answered, run_says, run_call}
+use Rattle.cc100.specs.Calls.{call_refusal, Decodes, Answer, step_answer, answer, answered, call_of, step_says, step_call, resume_call, RunAnswer, run_answer, run_answered, run_says, run_call}
 
--- ---- what the calls read, by what the code finds
+-- ---- the state that a call is lent, by what the code finds
 
-module _ (b : List ℕ) where
-  abbrev Decoded : Type 0
-  Decoded = Result State Refusal
+module _ (b : List ℕ) (n : ℕ) where
+  too_long_by : (t : Bool) → longest < n → cond t (refusal_of (state_of b) n) (cond (ltb longest n) 1 17) ≡ 1
+  too_long_by true h = sym (too_long (state_of b) n h)
+  too_long_by false h = rw (lt-ltb longest n h)
 
-  ok_by : (t : Bool) → is_state b ≡ t → (s : State) → decoded_of b ≡ Ok s → (is_state b ≡ true) × (s ≡ state_of b)
+  pub decodes_too_long : (e : Refusal) → Err e ≡ refused_when R.MemoryTooLong (ltb longest n) → call_refusal b n ≡ number_of e
+  unfolding call_refusal
+  decodes_too_long e h =
+      let w = when_broken R.MemoryTooLong e (ltb longest n) h in
+      too_long_by (is_state b) (ltb-true _ _ w.1) ∙ sym w.0
+
+  decodes_by : (t : Bool) → is_state b ≡ t → n ≤ longest → Decodes b n (cond t (Ok (state_of b)) (Err R.State))
+  unfolding call_refusal
+  decodes_by true q h = (h, (q, refl))
+  decodes_by false q h = rw (q, le-ltb longest n h)
+
+  pub decodes : n ≤ longest → (r : Result State Refusal) → r ≡ decoded_of b → Decodes b n r
   unfolding decoded_of
-  ok_by true q s h = let k : ◌≡◌ {A = Decoded} (Ok (state_of b)) (Ok s) = rw q at h in (q, cc)
-  ok_by false q s h = let k : ◌≡◌ {A = Decoded} (Err R.State) (Ok s) = rw q at h in absurd (cc)
-
-  err_by : (t : Bool) → is_state b ≡ t → (e : Refusal) → decoded_of b ≡ Err e → (is_state b ≡ false) × (e ≡ R.State)
-  unfolding decoded_of
-  err_by true q e h = let k : ◌≡◌ {A = Decoded} (Ok (state_of b)) (Err e) = rw q at h in absurd (cc)
-  err_by false q e h = let k : ◌≡◌ {A = Decoded} (Err R.State) (Err e) = rw q at h in (q, cc)
-
-  module _ (n : ℕ) where
-    too_long_by : (t : Bool) → longest < n → cond t (refusal_of (state_of b) n) (cond (ltb longest n) 1 17) ≡ 1
-    too_long_by true h = sym (too_long (state_of b) n h)
-    too_long_by false h = rw (lt-ltb longest n h)
-
-    pub reads_too_long : (e : Refusal) → Err e ≡ refused_when R.MemoryTooLong (ltb longest n) → call_refusal b n ≡ number_of e
-    unfolding call_refusal
-    reads_too_long e h =
-        let w = when_broken R.MemoryTooLong e (ltb longest n) h in
-        too_long_by (is_state b) (ltb-true _ _ w.1) ∙ sym w.0
-
-    pub reads_no_state : n ≤ longest → (e : Refusal) → decoded_of b ≡ Err e → call_refusal b n ≡ number_of e
-    unfolding call_refusal
-    reads_no_state h e d =
-        let (q, k) = err_by (is_state b) refl e d in
-        rw (q, k, le-ltb longest n h)
-
-    pub reads_refused : (s : State) → decoded_of b ≡ Ok s → (e : Refusal) → number_of e ≡ refusal_of s n → call_refusal b n ≡ number_of e
-    unfolding call_refusal
-    reads_refused s d e k =
-        let (q, l) = ok_by (is_state b) refl s d in
-        rw (q, k, l)
-
-    pub reads_state : (s : State) → decoded_of b ≡ Ok s → 0 ≡ refusal_of s n → (call_refusal b n ≡ 0) × (s ≡ state_of b)
-    unfolding call_refusal
-    reads_state s d k =
-        let (q, l) = ok_by (is_state b) refl s d in
-        (rw (q, ← l, ← k), l)
+  decodes h r e = rw e (decodes_by (is_state b) refl h)
 
 -- a call that is not refused is lent the bytes of a state
 served_by : (b : List ℕ) (n : ℕ) (t u : Bool) → is_state b ≡ t → ltb longest n ≡ u → call_refusal b n ≡ 0 → is_state b ≡ true
@@ -95,59 +72,6 @@ unfolding encoded_of
 encode_bytes s b x k e h =
     let l : length b ≡ 164 = state_length b e in
     (ap (λ o. o.number) h ∙ rw l, ap (λ o. o.bytes) h ∙ rw l)
-
--- ---- the calls, by what the code finds
-
-module _ (b m : List ℕ) where
-  pub call_refused : (e : Refusal) → call_refusal b (length m) ≡ number_of e → (o : Outcome) → answer (number_of e) b m ≡ call_of b m o
-  unfolding call_of
-  call_refused e k o = rw (k, ne_eqb (number_of e) 0 (number_some e))
-
-  pub step_refused_call : (e : Refusal) → call_refusal b (length m) ≡ number_of e → step_says (Err e) b m ≡ step_call b m
-  step_refused_call e k = call_refused e k (step_of (state_of b) m)
-
-  pub resume_refused_call : (e : Refusal) → call_refusal b (length m) ≡ number_of e → answer (number_of e) b m ≡ resume_call b m
-  resume_refused_call e k = call_refused e k (resume_of (state_of b) m)
-
-  pub run_refused_call : (budget : ℕ) (e : Refusal) → call_refusal b (length m) ≡ number_of e → run_says (Err e) b m ≡ run_call b m budget
-  unfolding run_call
-  run_refused_call budget e k = rw (k, ne_eqb (number_of e) 0 (number_some e))
-
-  module _ (s : State) (read : (call_refusal b (length m) ≡ 0) × (s ≡ state_of b)) where
-    whole : is_state b ≡ true
-    whole = call_state b (length m) read.0
-
-    pub machine_serves : refusal_of s (length m) ≡ 0
-    unfolding call_refusal
-    machine_serves = let h = read.0 in rw read.1 (rw whole at h)
-
-    -- a state's bytes are always long enough
-    pub encodes : {P : Type 0} (t : State) (x : List ℕ) (e : Refusal) → encoded (number_of e) x ≡ encoded_of t b → P
-    encodes t x e h = absurd (number_some e (encode_bytes t b x (number_of e) whole h).0)
-
-    -- the bytes stand for the state as it was
-    same : Bytes b → bytes_of s ≡ b
-    same g = rw read.1 (bytes_state b g whole)
-
-    pub resume_left : Bytes b → (e : Refusal) → outcome (number_of e) s m ≡ resume_of s m → answer (number_of e) b m ≡ resume_call b m
-    unfolding call_of
-    resume_left g e h = rw (read.0, ← read.1, ← h, same g)
-
-    module _ (t : State) (x : List ℕ) (k : ℕ) (left : encoded k x ≡ encoded_of t b) where
-      bytes : x ≡ bytes_of t
-      bytes = (encode_bytes t b x k whole left).1
-
-      pub step_done_call : (o : ℕ) (u : Option Touched) (y : List ℕ) → stepped o u t y ≡ step_of s m → step_answer o (cell_of u) x y ≡ step_call b m
-      unfolding call_of
-      step_done_call o u y h = rw (read.0, ← read.1, ← h, bytes)
-
-      pub run_done_call : (o n : ℕ) (u : Option Touched) (y : List ℕ) (budget : ℕ) → course o n u t y ≡ run_of s m budget → run_answer o n (cell_of u) x y ≡ run_call b m budget
-      unfolding run_call
-      run_done_call o n u y budget h = rw (read.0, ← read.1, ← h, bytes)
-
-      pub resume_done_call : outcome 0 t m ≡ resume_of s m → answer k x m ≡ resume_call b m
-      unfolding call_of
-      resume_done_call h = rw (read.0, ← read.1, ← h, bytes, (encode_bytes t b x k whole left).0)
 
 -- ---- the calls do what the machine does, refused or not
 
@@ -174,6 +98,69 @@ module _ (b m : List ℕ) (g : Bytes b) (e : is_state b ≡ true) where
   unfolding run_call
   run_call_law budget =
       rw same_refusal (by_zero (λ r. r ≡ run_answered (run_of (state_of b) m budget)) refusal (λ _. refl) (λ n. rw (← run_refused (state_of b) m budget refusal refl n, bytes_state b g e)))
+
+-- ---- the calls, by what the code finds
+
+module _ (b m : List ℕ) where
+  call_refused : (e : Refusal) → call_refusal b (length m) ≡ number_of e → (o : Outcome) → answer (number_of e) b m ≡ call_of b m o
+  unfolding call_of
+  call_refused e k o = rw (k, ne_eqb (number_of e) 0 (number_some e))
+
+  pub step_refused_call : (e : Refusal) → call_refusal b (length m) ≡ number_of e → step_says (Err e) b m ≡ step_call b m
+  step_refused_call e k = call_refused e k (step_of (state_of b) m)
+
+  pub resume_refused_call : (e : Refusal) → call_refusal b (length m) ≡ number_of e → answer (number_of e) b m ≡ resume_call b m
+  resume_refused_call e k = call_refused e k (resume_of (state_of b) m)
+
+  pub run_refused_call : (budget : ℕ) (e : Refusal) → call_refusal b (length m) ≡ number_of e → run_says (Err e) b m ≡ run_call b m budget
+  unfolding run_call
+  run_refused_call budget e k = rw (k, ne_eqb (number_of e) 0 (number_some e))
+
+  module _ (g : Bytes b) (s : State) (lent : (is_state b ≡ true) × (s ≡ state_of b)) where
+    -- the bytes stand for the state as it was
+    same : bytes_of s ≡ b
+    same = rw lent.1 (bytes_state b g lent.0)
+
+    -- a state's bytes are always long enough
+    pub encodes : {P : Type 0} (t : State) (x : List ℕ) (e : Refusal) → encoded (number_of e) x ≡ encoded_of t b → P
+    encodes t x e h = absurd (number_some e (encode_bytes t b x (number_of e) lent.0 h).0)
+
+    -- what the machine refuses leaves them
+    pub step_left : (e : Refusal) (y : List ℕ) → outcome (number_of e) s y ≡ step_of s m → step_says (Err e) b y ≡ step_call b m
+    step_left e y h = rw (step_call_law b m g lent.0, ← lent.1, ← h, same)
+
+    pub resume_left : (e : Refusal) → outcome (number_of e) s m ≡ resume_of s m → answer (number_of e) b m ≡ resume_call b m
+    resume_left e h = rw (resume_call_law b m g lent.0, ← lent.1, ← h, same)
+
+    pub run_left : (e : Refusal) (y : List ℕ) (budget : ℕ) → course (number_of e) 0 None s y ≡ run_of s m budget → run_says (Err e) b y ≡ run_call b m budget
+    run_left e y budget h = rw (run_call_law b m g lent.0 budget, ← lent.1, ← h, same)
+
+    module _ (t : State) (x : List ℕ) (k : ℕ) (left : encoded k x ≡ encoded_of t b) where
+      bytes : x ≡ bytes_of t
+      bytes = (encode_bytes t b x k lent.0 left).1
+
+      pub step_done_call : (o : ℕ) (u : Option Touched) (y : List ℕ) → stepped o u t y ≡ step_of s m → step_answer o (cell_of u) x y ≡ step_call b m
+      step_done_call o u y h = rw (step_call_law b m g lent.0, ← lent.1, ← h, bytes)
+
+      pub run_done_call : (o n : ℕ) (u : Option Touched) (y : List ℕ) (budget : ℕ) → course o n u t y ≡ run_of s m budget → run_answer o n (cell_of u) x y ≡ run_call b m budget
+      run_done_call o n u y budget h = rw (run_call_law b m g lent.0 budget, ← lent.1, ← h, bytes)
+
+      pub resume_done_call : outcome 0 t m ≡ resume_of s m → answer k x m ≡ resume_call b m
+      resume_done_call h =
+          rw (resume_call_law b m g lent.0, ← lent.1, ← h, bytes, (encode_bytes t b x k lent.0 left).0)
+
+-- the same of a call that nothing refuses, whatever numbers its bytes are
+module _ (b m : List ℕ) (s : State) (served : (call_refusal b (length m) ≡ 0) × (s ≡ state_of b)) (t : State) (x : List ℕ) (k : ℕ) (left : encoded k x ≡ encoded_of t b) where
+  done_bytes : x ≡ bytes_of t
+  done_bytes = (encode_bytes t b x k (call_state b (length m) served.0) left).1
+
+  pub step_call_done : (o : ℕ) (u : Option Touched) (y : List ℕ) → stepped o u t y ≡ step_of s m → step_answer o (cell_of u) x y ≡ step_call b m
+  unfolding call_of
+  step_call_done o u y h = rw (served.0, ← served.1, ← h, done_bytes)
+
+  pub run_call_done : (o n : ℕ) (u : Option Touched) (y : List ℕ) (budget : ℕ) → course o n u t y ≡ run_of s m budget → run_answer o n (cell_of u) x y ≡ run_call b m budget
+  unfolding run_call
+  run_call_done o n u y budget h = rw (served.0, ← served.1, ← h, done_bytes)
 
 -- ---- an exit and a refusal leave every byte
 

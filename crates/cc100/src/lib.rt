@@ -1,18 +1,16 @@
-// What step, run and resume on a state as bytes share: the refusals that they try first.
+// What step, run and resume on a state as bytes share: the refusals that come before those of a state.
 #![tactic(auto)]
 
-ghost use Rattle.cc100.specs.Calls.{Reads};
+ghost use Rattle.cc100.specs.Calls.{Decodes};
 
 use machine::state::State;
-use refusal::Refusal;
+use refusal::{Ending, Refusal};
 
-// The state that the bytes stand for, or the refusal that is due, memory's before the state's.
-#[tactic(auto, using(crate::proofs::Calls::reads_no_state, crate::proofs::Calls::reads_refused, crate::proofs::Calls::reads_state), unfolding(codec::specs::Bytes::decoded_of))]
-pub fn read_state(bytes: &[u8], length: usize) -> Result<State, Refusal>
-    ensures { Reads bytes.now length result }
+// The state that the bytes stand for, or the refusal that is due, memory's before that of bytes. No TryFrom: memory's length is asked too.
+#[tactic(auto, using(crate::proofs::Calls::decodes))]
+pub fn decode(bytes: &[u8], length: usize) -> Result<State, Refusal>
+    ensures { Decodes bytes.now length result }
 {
     Refusal::MemoryTooLong.when(word::bytes::LONGEST < length)?;
-    let s = codec::decode::decode(bytes)?;
-    s.refusal(length)?;
-    Ok(s)
+    codec::decode::decode(bytes)
 }

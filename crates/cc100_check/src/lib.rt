@@ -4,9 +4,11 @@
 ghost use Rattle.std.specs.Prelude.{◌≡◌};
 ghost use Rattle.cc100_check.specs.Call.{check_call};
 
+use checker::check::Candidate;
 use checker::verdict::Verdict;
 use layout::Layout;
 
+// Four numbers for the layout: the C interface has no struct of them. A call of its own for each profile.
 #[unsafe(no_mangle)]
 pub extern "C" fn cc100_check(
     memory_length: u64,
@@ -24,5 +26,10 @@ pub extern "C" fn cc100_check(
         data_base,
         data_size,
     };
-    Verdict::from(checker::check::check(layout, memory_length, image))
+    let candidate = Candidate {
+        layout,
+        memory_length,
+        image,
+    };
+    Verdict::from(candidate.check())
 }

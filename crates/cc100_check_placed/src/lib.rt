@@ -7,6 +7,7 @@ ghost use Rattle.cc100_check_placed.specs.Call.{placed_call};
 use checker::verdict::Verdict;
 use layout::Layout;
 
+// Four numbers for the layout: the C interface has no struct of them.
 #[unsafe(no_mangle)]
 pub extern "C" fn cc100_check_placed(
     code_base: u32,

@@ -1,5 +1,7 @@
 -- What cc100_read and cc100_write answer: the numbers that stand for each case of a reading and of a writing.
-use Rattle.std.specs.Prelude.{ℕ, Option, Some, None}
+use Rattle.std.specs.Prelude.{ℕ, Option, Some, None, Result, Ok, Err}
+use Rattle.refusal.specs.declared.Refusal.{Refusal}
+use Rattle.refusal.specs.Refusal as R
 use Rattle.isa.specs.declared.kind.Instruction.{Instruction}
 use Rattle.isa.specs.declared.kind.Kind.{Kind}
 use Rattle.isa.specs.Number.{number_of}
@@ -22,6 +24,11 @@ write_numbers n w = record { number = n; word = w }
 -- 0 with the word, or 18 with 0
 abbrev pub write_answer : Option ℕ → WriteAnswer
 write_answer w = write_numbers (written_number w) (written_word w)
+
+-- the same of a writing or of what it is refused by
+abbrev pub result_answer : Result ℕ Refusal → WriteAnswer
+result_answer (Ok w) = write_numbers 0 w
+result_answer (Err r) = write_numbers (R.number_of r) 0
 
 -- a number that is no instruction's is refused like a field that is not legal
 abbrev pub write_numbered : Option Kind → ℕ → ℕ → ℕ → ℕ → ℕ → WriteAnswer

@@ -4,7 +4,7 @@
 ghost use Rattle.std.specs.Prelude.{◌≡◌};
 ghost use Rattle.isa.specs.Reading.{read_of};
 ghost use Rattle.isa.specs.Number.{kind_of};
-ghost use Rattle.cc100_instruction.specs.Instruction.{read_answer, write_answer, write_numbered};
+ghost use Rattle.cc100_instruction.specs.Instruction.{read_answer, result_answer, write_numbered};
 
 use isa::kind::{Instruction, Kind};
 use refusal::Refusal;
@@ -54,14 +54,14 @@ pub struct WriteAnswer {
     pub word: u32,
 }
 
-impl From<Option<u32>> for WriteAnswer {
-    ghost from_gives = { λ written answer. answer ≡ write_answer written };
+impl From<Result<u32, Refusal>> for WriteAnswer {
+    ghost from_gives = { λ written answer. answer ≡ result_answer written };
 
-    fn from(written: Option<u32>) -> WriteAnswer {
+    fn from(written: Result<u32, Refusal>) -> WriteAnswer {
         match written {
-            Some(word) => WriteAnswer { number: 0, word },
-            None => WriteAnswer {
-                number: u32::from(Refusal::IllegalField),
+            Ok(word) => WriteAnswer { number: 0, word },
+            Err(refusal) => WriteAnswer {
+                number: u32::from(refusal),
                 word: 0,
             },
         }
@@ -74,19 +74,19 @@ pub fn cc100_read(word: u32) -> ReadAnswer
     ReadAnswer::from(reader::read(word))
 }
 
+// Numbers, as the C interface has them.
 pub fn cc100_write(kind: u32, rs: u32, rt: u32, rd: u32, shift: u32, value: u32) -> WriteAnswer
     ensures { result ≡ write_numbered (kind_of kind) rs rt rd shift value }
 {
-    let written = match Kind::try_from(kind) {
-        Ok(kind) => writer::write(Instruction {
+    let written = Kind::try_from(kind).and_then(|kind| {
+        writer::write(Instruction {
             kind,
             rs,
             rt,
             rd,
             shift,
             value,
-        }),
-        Err(_) => None,
-    };
+        })
+    });
     WriteAnswer::from(written)
 }

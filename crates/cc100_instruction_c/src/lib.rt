@@ -1,4 +1,4 @@
-// Words read and written by number, for C.
+// Words read and written by number, for C. A crate of its own: one is built for other crates or for C, not for both, and `vectors` calls these too.
 #![tactic(auto)]
 
 ghost use Rattle.std.specs.Prelude.{◌≡◌};
@@ -15,6 +15,7 @@ pub extern "C" fn cc100_read(word: u32) -> ReadAnswer
     cc100_instruction::cc100_read(word)
 }
 
+// Numbers, as the C interface has them.
 #[unsafe(no_mangle)]
 pub extern "C" fn cc100_write(
     kind: u32,

@@ -9,7 +9,8 @@ use effect::effect::Cell;
 use machine::run::Ran;
 use refusal::Refusal;
 
-// struct cc100_ran; number 0: still running; width 0: no access.
+// struct cc100_ran; number 0: still running; width 0: no access. The C interface: flat as in cc100.h, and SteppedAnswer of cc100_step is a struct of
+// its own.
 #[repr(C)]
 #[derive(Clone, Copy)]
 pub struct RanAnswer {
@@ -41,11 +42,12 @@ impl From<Result<Ran, Refusal>> for RanAnswer {
     }
 }
 
+// cc100_step and cc100_resume have the same lines around theirs: a function of all would take a closure, and have to state what any call leaves.
 fn ran(state: &mut [u8], memory: &mut [u8], budget: u32) -> Result<Ran, Refusal>
     ensures { Spec.run_says result state.new memory.new ≡ Spec.run_call state.old memory.old budget }
 {
-    let s = cc100::read_state(state, memory.len())?;
-    let r = s.run_unrefused(memory, budget);
+    let s = cc100::decode(state, memory.len())?;
+    let r = s.run(memory, budget)?;
     codec::encode::encode(r.state, state)?;
     Ok(r)
 }

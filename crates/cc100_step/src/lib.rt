@@ -9,7 +9,7 @@ use effect::effect::Cell;
 use machine::step::Stepped;
 use refusal::Refusal;
 
-// struct cc100_stepped; width 0: no access.
+// struct cc100_stepped; width 0: no access. The C interface: flat as in cc100.h, and RanAnswer of cc100_run is a struct of its own.
 #[repr(C)]
 #[derive(Clone, Copy)]
 pub struct SteppedAnswer {
@@ -39,11 +39,12 @@ impl From<Result<Stepped, Refusal>> for SteppedAnswer {
     }
 }
 
+// cc100_run and cc100_resume have the same lines around theirs: a function of all would take a closure, and have to state what any call leaves.
 fn stepped(state: &mut [u8], memory: &mut [u8]) -> Result<Stepped, Refusal>
     ensures { Spec.step_says result state.new memory.new ≡ Spec.step_call state.old memory.old }
 {
-    let s = cc100::read_state(state, memory.len())?;
-    let r = s.step_unrefused(memory);
+    let s = cc100::decode(state, memory.len())?;
+    let r = s.step(memory)?;
     codec::encode::encode(r.state, state)?;
     Ok(r)
 }

@@ -1,4 +1,4 @@
-// One step of a state as bytes, for C.
+// One step of a state as bytes, for C. A crate of its own: one is built for other crates or for C, not for both, and `steps` calls it too.
 #![tactic(auto)]
 
 ghost use Rattle.std.specs.Prelude.{◌≡◌};

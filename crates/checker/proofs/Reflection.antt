@@ -17,11 +17,12 @@ use Rattle.isa.specs.declared.kind.System.TheVariants.{Break, Rfe, Mfc0, Mtc0}
 use Rattle.isa.specs.declared.kind.Kind.{Kind}
 use Rattle.isa.specs.declared.kind.Kind.TheVariants as K
 use Rattle.isa.specs.declared.kind.Instruction.{Instruction}
-use Rattle.class.specs.declared.Width.{Width}
-use Rattle.class.specs.declared.Width.TheVariants.{Byte, Half, Word}
+use Rattle.isa.specs.declared.width.Width.{Width}
+use Rattle.isa.specs.declared.width.Width.TheVariants.{Byte, Half, Word}
 use Rattle.class.specs.declared.Flow.{Flow}
 use Rattle.class.specs.declared.Flow.TheVariants.{Onward, Relative, Region, Register}
-use Rattle.class.specs.Class.{bytes_of, class_of}
+use Rattle.isa.specs.Width.{bytes_of}
+use Rattle.class.specs.Class.{class_of, width_accessed}
 use Rattle.isa.specs.Table.{instructions}
 use Rattle.isa.specs.Reading.{read_of}
 use Rattle.isa.proofs.Codes.{key_of, every}
@@ -169,7 +170,7 @@ module _ (x : Instruction) where
 
   needs_guard_law : Says (L.NeedsGuard x) (needs_guard (seen x))
   unfolding seen
-  needs_guard_law = ors (accesses (class_of x.kind).width) (registers (flow_of x))
+  needs_guard_law = ors (accesses (width_accessed x.kind)) (registers (flow_of x))
 
 -- ---- words
 
@@ -299,7 +300,7 @@ module _ (l : Layout) (img : List ℕ) (i : ℕ) where
   unfolding seen C.broken12
   rule12 =
       every_word img i _ (C.broken12 l.data_size img i)
-      (λ x. imps (accesses (class_of x.kind).width) (lacks (guards img i 26 x.rs _ _ (λ m. fits_data_law _ m _ _))))
+      (λ x. imps (accesses (width_accessed x.kind)) (lacks (guards img i 26 x.rs _ _ (λ m. fits_data_law _ m _ _))))
 
   rule13 : Denies (L.Rule13 l img i) (passes (C.broken13 l.code_size img i) (C.view_at img i))
   unfolding seen C.broken13

@@ -68,14 +68,14 @@ module _ (number : ℕ → ℕ) (end : Verdict) (i n : ℕ) where
     more : first_word number end (n - i) i ≡ cond (eqb (number i) 0) (first_word number end (n - (i + 1)) (i + 1)) (verdict (number i) i)
     more = let z : n - i ≡ suc (n - (i + 1)) = omega arith in rw (z, add-one i)
 
-    pub scan_stop : {k : ℕ} → Not (k ≡ 0) → k ≡ number i → verdict k i ≡ first_word number end (n - i) i
-    scan_stop {k} z e = sym (more ∙ (rw (← e, ne_eqb k 0 z)))
+    pub turn_stop : {k : ℕ} → Not (k ≡ 0) → k ≡ number i → verdict k i ≡ first_word number end (n - i) i
+    turn_stop {k} z e = sym (more ∙ (rw (← e, ne_eqb k 0 z)))
 
-    pub scan_go : 0 ≡ number i → first_word number end (n - (i + 1)) (i + 1) ≡ first_word number end (n - i) i
-    scan_go e = sym (more ∙ (rw (← e)))
+    pub turn_go : 0 ≡ number i → first_word number end (n - (i + 1)) (i + 1) ≡ first_word number end (n - i) i
+    turn_go e = sym (more ∙ (rw (← e)))
 
-  pub scan_end : n ≤ i → end ≡ first_word number end (n - i) i
-  scan_end h = let z : n - i ≡ 0 = omega arith in rw z
+  pub turn_end : n ≤ i → end ≡ first_word number end (n - i) i
+  turn_end h = let z : n - i ≡ 0 = omega arith in rw z
 
 -- what is left of the words' verdict from word i on
 module _ (b : Layout → ℕ → View → ℕ) (w : Layout → List ℕ → ℕ) (l : Layout) (img : List ℕ) where
@@ -89,17 +89,17 @@ module _ (b : Layout → ℕ → View → ℕ) (w : Layout → List ℕ → ℕ)
   module _ (i : ℕ) (e : length img ≡ l.code_size) where
     module _ (h : i < length img / 4) {after : Bool} (q : after ≡ passes is_branch (view_before img i)) where
       pub stopped : {k : ℕ} → Not (k ≡ 0) → k ≡ number_of_word b l img i after (view_at img i) → verdict k i ≡ rest i
-      stopped z f = scan_stop (number_at b l img) _ i (l.code_size / 4) (omega (arith, h, e)) z (f ∙ ap (λ (a : Bool). number_of_word b l img i a (view_at img i)) q)
+      stopped z f = turn_stop (number_at b l img) _ i (l.code_size / 4) (omega (arith, h, e)) z (f ∙ ap (λ (a : Bool). number_of_word b l img i a (view_at img i)) q)
 
       pub gone : {r : Result Bool Refusal} {x : Bool} → r ≡ Ok x → refused_number r ≡ number_of_word b l img i after (view_at img i) → rest (i + 1) ≡ rest i
       gone p f =
           let z = ap (λ (r : Result Bool Refusal). refused_number r) (sym p) ∙ f in
-          scan_go (number_at b l img) _ i (l.code_size / 4) (omega (arith, h, e)) (z ∙ ap (λ (a : Bool). number_of_word b l img i a (view_at img i)) q)
+          turn_go (number_at b l img) _ i (l.code_size / 4) (omega (arith, h, e)) (z ∙ ap (λ (a : Bool). number_of_word b l img i a (view_at img i)) q)
 
     pub ended : length img / 4 ≤ i → end_verdict w l img (length img / 4) ≡ rest i
     ended h =
         let n : length img / 4 ≡ l.code_size / 4 = ap (λ (k : ℕ). k / 4) e in
-        rw n (scan_end (number_at b l img) _ i (l.code_size / 4) (omega (arith, h, n)))
+        rw n (turn_end (number_at b l img) _ i (l.code_size / 4) (omega (arith, h, n)))
 
 pub is_last_jump : (img : List ℕ) (i : ℕ) {x : ℕ} {j : Bool} → x ≡ word_at img i → j ≡ passes is_jump (word_view x) → j ≡ passes is_jump (view_at img i)
 unfolding view_at
@@ -114,6 +114,24 @@ module _ (word : ℕ → ℕ → Bool) (at after : ℕ → List Verdict) where
   -- word i gives number k, 0 where it breaks nothing
   abbrev pub Gives : ℕ → ℕ → Type 0
   Gives i k = (ts : List Verdict) → first (at i ++ ts) ≡ given (λ (j : ℕ). verdict j i) (first ts) k
+
+  module _ (i n k : ℕ) (g : Gives i k) (h : i < n) where
+    tried : words_by word at after (n - i) i ≡ given (λ (j : ℕ). verdict j i) (words_by word at after (n - (i + 1)) (i + 1)) k
+    tried =
+        let z : n - i ≡ suc (n - (i + 1)) = omega arith in
+        rw (z, add-one i) (g (in_turn at after (n - suc i) (suc i)))
+
+    pub scan_stop : Not (k ≡ 0) → verdict k i ≡ words_by word at after (n - i) i
+    scan_stop z = sym (tried ∙ (rw (ne_eqb k 0 z)))
+
+    pub scan_go : k ≡ 0 → words_by word at after (n - (i + 1)) (i + 1) ≡ words_by word at after (n - i) i
+    scan_go z = sym (tried ∙ (rw z))
+
+  pub scan_end : (i n : ℕ) → i ≤ n → n ≤ i → first (after n) ≡ words_by word at after (n - i) i
+  scan_end i n h k =
+      let z : n - i ≡ 0 = omega arith in
+      let d : i ≡ n = omega arith in
+      rw (z, d)
 
   pub turned : (number : ℕ → ℕ) (end : Verdict) → ((i : ℕ) → Gives i (number i)) → (n i : ℕ) → first (after (i + n)) ≡ end
       → first_word number end n i ≡ words_by word at after n i

@@ -9,7 +9,8 @@ use Rattle.isa.specs.declared.kind.Kind.TheVariants as K
 use Rattle.isa.specs.declared.kind.Instruction.{Instruction}
 use Rattle.class.specs.declared.Flow.{Flow}
 use Rattle.class.specs.declared.Flow.TheVariants.{Onward, Relative, Region, Register}
-use Rattle.class.specs.Class.{bytes_of, class_of, register_written}
+use Rattle.isa.specs.Width.{bytes_of}
+use Rattle.class.specs.Class.{class_of, width_accessed, register_written}
 use Rattle.isa.specs.Reading.{read_of}
 use Rattle.layout.specs.declared.Layout.{Layout}
 use Rattle.branch.specs.Branch.{relative_of, region_of}
@@ -37,7 +38,7 @@ abbrev pub Stands : List ℕ → ℕ → Instruction → Type 0
 Stands img i x = read_of (load_of 4 img (4 * i)) ≡ Some x
 
 abbrev pub width_of : Instruction → ℕ
-width_of x = bytes_of (class_of x.kind).width
+width_of x = bytes_of (width_accessed x.kind)
 
 abbrev pub flow_of : Instruction → Flow
 flow_of x = (class_of x.kind).flow

@@ -10,7 +10,7 @@ ghost use Rattle.checker.specs.Scan as Spec;
 
 use crate::verdict::Refused;
 use quick::guard::is_jump;
-use refusal::Refusal;
+use refusal::{Ending, Refusal};
 use rules::image::word_at;
 use rules::site::{Module, Site};
 use rules::{guard, landing, single};
@@ -18,7 +18,7 @@ use view::View;
 
 // The rules that a profile has beside document 01's: of each branch or jump, after 15, and of the whole, after 16.
 pub trait Profile {
-    // each a refusal's number; 0 where none is broken
+    // each a refusal's number, 0 where none is broken: document 01's table and the definitions of the verdict name the rules by number
     ghost of_branch: { Layout → ℕ → View → ℕ };
 
     ghost of_whole: { Layout → List ℕ → ℕ };
@@ -91,13 +91,16 @@ fn at_word<A>(i: usize, said: Result<A, Refusal>) -> Result<A, Refused>
     ensures verdict { verdict_of result ≡ Spec.verdict_at (refused_number said) i }
     ensures passed { IfOk result (λ x. said ≡ Ok x) }
 {
-    match said {
-        Ok(x) => Ok(x),
-        Err(rule) => Err(Refused {
-            rule,
-            place: Some(i as u32),
-        }),
-    }
+    said.map_err(
+        |rule|
+            requires { i < no_place }
+        {
+            Refused {
+                rule,
+                place: Some(i as u32),
+            }
+        },
+    )
 }
 
 // After the words: 16, and what the profile says of the whole.
@@ -105,7 +108,7 @@ fn at_word<A>(i: usize, said: Result<A, Refusal>) -> Result<A, Refused>
 fn check_end<P: Profile>(whole: Module) -> Result<(), Refused>
     ensures { verdict_of result ≡ Spec.end_verdict P.of_whole whole.entry.layout whole.entry.image.now (length whole.entry.image.now / 4) }
 {
-    let i = whole.image.len() / 4 - 2;
+    let i = whole.words() - 2;
     let jump = is_jump(word_at(whole.image, i));
     at_word(i, Refusal::NoLastJump.when(!jump))?;
     Ok(P::check_whole(whole)?)
@@ -115,9 +118,8 @@ fn check_end<P: Profile>(whole: Module) -> Result<(), Refused>
 pub fn check_words<P: Profile>(whole: Module) -> Result<(), Refused>
     ensures { verdict_of result ≡ Spec.words_verdict P.of_branch P.of_whole whole.entry.layout whole.entry.image.now }
 {
-    let n = whole.image.len() / 4;
     let mut after = false;
-    for i in 0..n {
+    for i in 0..whole.words() {
         after = at_word(i, try_word::<P>(Site { whole, index: i }, after))?;
     }
     check_end::<P>(whole)

@@ -1,5 +1,5 @@
 -- The one classification of instructions for machine and checker: accesses, flow of control, and the register written.
-use Rattle.std.specs.Prelude.{ℕ, ◌≡◌, Bool, true, false, Option, Some, None}
+use Rattle.std.specs.Prelude.{ℕ, Bool, true, false, Option, Some, None}
 use Rattle.isa.specs.declared.kind.Multiply.{Multiply}
 use Rattle.isa.specs.declared.kind.Multiply.TheVariants.{Mult, Multu, Div, Divu, Mfhi, Mthi, Mflo, Mtlo}
 use Rattle.isa.specs.declared.kind.Access.{Access}
@@ -11,51 +11,38 @@ use Rattle.isa.specs.declared.kind.System.TheVariants.{Syscall, Break, Rfe, Mfc0
 use Rattle.isa.specs.declared.kind.Kind.{Kind}
 use Rattle.isa.specs.declared.kind.Kind.TheVariants as K
 use Rattle.isa.specs.declared.kind.Instruction.{Instruction}
-use Rattle.class.specs.declared.Width.{Width}
-use Rattle.class.specs.declared.Width.TheVariants.{Byte, Half, Word}
+use Rattle.isa.specs.declared.width.Width.{Width}
+use Rattle.isa.specs.declared.width.Width.TheVariants.{Byte, Half, Word}
 use Rattle.class.specs.declared.Flow.{Flow}
 use Rattle.class.specs.declared.Flow.TheVariants.{Onward, Relative, Region, Register}
 use Rattle.class.specs.declared.Destination.{Destination}
 use Rattle.class.specs.declared.Destination.TheVariants.{Nowhere, FieldRt, FieldRd, Return}
+use Rattle.class.specs.declared.Transfer.{Transfer}
+use Rattle.class.specs.declared.Transfer.TheVariants.{Load, Store}
 use Rattle.class.specs.declared.Class.{Class}
-
--- ---- the width of an access, in bytes (document 01, Module and its guards)
-
-abbrev pub bytes_in : Width → ℕ
-bytes_in Byte = 1
-bytes_in Half = 2
-bytes_in Word = 4
-
-abbrev pub IsBytesOf : Width → ℕ → Type 0
-IsBytesOf w n = n ≡ bytes_in w
-
--- 0 of what is no access
-abbrev pub bytes_of : Option Width → ℕ
-bytes_of (Some w) = bytes_in w
-bytes_of None = 0
 
 -- ---- classes
 
-abbrev pub classed : Option Width → Bool → Flow → Bool → Destination → Class
-classed w s f l d = record { width = w; store = s; flow = f; link = l; destination = d }
+abbrev pub classed : Option Transfer → Flow → Bool → Destination → Class
+classed a f l d = record { access = a; flow = f; link = l; destination = d }
 
 -- neither an access nor a branch
 abbrev pub plain : Destination → Class
-plain d = classed None false Onward false d
+plain d = classed None Onward false d
 
 -- an access
 abbrev pub loads : Width → Class
-loads w = classed (Some w) false Onward false FieldRt
+loads w = classed (Some (Load w)) Onward false FieldRt
 
 abbrev pub stores : Width → Destination → Class
-stores w d = classed (Some w) true Onward false d
+stores w d = classed (Some (Store w)) Onward false d
 
 -- a branch or jump, and one that leaves a link
 abbrev pub branches : Flow → Class
-branches f = classed None false f false Nowhere
+branches f = classed None f false Nowhere
 
 abbrev pub links : Flow → Destination → Class
-links f d = classed None false f true d
+links f d = classed None f true d
 
 abbrev pub multiply_class : Multiply → Class
 multiply_class Mult = plain Nowhere
@@ -110,6 +97,15 @@ class_of (K.Access k) = access_class k
 class_of (K.Branch k) = branch_class k
 class_of (K.Trap k) = plain Nowhere
 class_of (K.System k) = system_class k
+
+-- how much is accessed, where anything is
+abbrev pub width_in : Option Transfer → Option Width
+width_in (Some (Load w)) = Some w
+width_in (Some (Store w)) = Some w
+width_in None = None
+
+abbrev pub width_accessed : Kind → Option Width
+width_accessed k = width_in (class_of k).access
 
 -- the register that an instruction names as its destination; 0, which no write changes, where it names none
 abbrev pub named : Destination → Instruction → ℕ

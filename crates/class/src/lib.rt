@@ -5,24 +5,8 @@ ghost use Rattle.std.specs.Prelude.{◌≡◌};
 ghost use Rattle.class.specs.Class as C;
 
 use isa::kind::{Access, Branch, Instruction, Kind, Multiply, System};
-
-// How much an access loads or stores, in bytes.
-#[derive(Clone, Copy)]
-pub enum Width {
-    Byte = 1,
-    Half = 2,
-    Word = 4,
-}
-
-impl From<Width> for u32 {
-    ghost use Rattle.class.specs.Class.{IsBytesOf};
-
-    ghost from_gives = { IsBytesOf };
-
-    fn from(w: Width) -> u32 {
-        w as u32
-    }
-}
+use isa::register;
+use isa::width::Width;
 
 // Where control goes after the slot.
 #[derive(Clone, Copy, PartialEq, Eq)]
@@ -47,22 +31,30 @@ pub enum Destination {
     Return,
 }
 
+// An access: what it does, and how much of memory it takes. Touched of effect says the same of a step, which has an address. The direction is for the
+// machine's definitions, which ask it; the checker asks the width.
+#[derive(Clone, Copy)]
+pub enum Transfer {
+    Load(Width),
+    Store(Width),
+}
+
 #[derive(Clone, Copy)]
 pub struct Class {
     // None: not an access.
-    pub width: Option<Width>,
-    pub store: bool,
+    pub access: Option<Transfer>,
     pub flow: Flow,
+    // leaves a link; beside the flow as in View
     pub link: bool,
     pub destination: Destination,
 }
 
+// A name for each sort of class, here and below, as the definition has them.
 fn plain(destination: Destination) -> Class
     ensures { result ≡ C.plain destination }
 {
     Class {
-        width: None,
-        store: false,
+        access: None,
         flow: Flow::Onward,
         link: false,
         destination,
@@ -73,7 +65,7 @@ fn loads(width: Width) -> Class
     ensures { result ≡ C.loads width }
 {
     Class {
-        width: Some(width),
+        access: Some(Transfer::Load(width)),
         ..plain(Destination::FieldRt)
     }
 }
@@ -82,8 +74,7 @@ fn stores(width: Width, destination: Destination) -> Class
     ensures { result ≡ C.stores width destination }
 {
     Class {
-        width: Some(width),
-        store: true,
+        access: Some(Transfer::Store(width)),
         ..plain(destination)
     }
 }
@@ -160,7 +151,7 @@ fn system_class(k: System) -> Class
     }
 }
 
-// A match by hand: it is the classification itself, beside that of the definition.
+// A match by hand and no From: it is the classification itself, which answers what is asked of a kind, and not the kind in another form.
 pub fn class_of(k: Kind) -> Class
     ensures { result ≡ C.class_of k }
 {
@@ -175,6 +166,18 @@ pub fn class_of(k: Kind) -> Class
     }
 }
 
+impl Class {
+    pub fn width(self) -> Option<Width>
+        ensures { result ≡ C.width_in self.access }
+    {
+        match self.access {
+            Some(Transfer::Load(width) | Transfer::Store(width)) => Some(width),
+            None => None,
+        }
+    }
+}
+
+// 0 of Nowhere, as the definition has it: register 0 takes no writes, so that whoever asks what is written needs no case of its own.
 pub fn named(destination: Destination, i: Instruction) -> u32
     ensures { result ≡ C.named destination i }
 {
@@ -182,6 +185,6 @@ pub fn named(destination: Destination, i: Instruction) -> u32
         Destination::Nowhere => 0,
         Destination::FieldRt => i.rt,
         Destination::FieldRd => i.rd,
-        Destination::Return => 31,
+        Destination::Return => register::LINK,
     }
 }

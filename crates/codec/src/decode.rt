@@ -8,8 +8,7 @@ use machine::state::State;
 use refusal::Refusal;
 use word::bytes::words;
 
-// 17's rules of bytes: their number, and an LL word of at most 1.
-#[tactic(auto, using(crate::proofs::RoundTrip::decode_done, crate::proofs::RoundTrip::decode_refused, crate::proofs::RoundTrip::decode_length), unfolding(crate::specs::Bytes::state_of, crate::specs::Bytes::word_at, word::specs::Bytes::words_at))]
+// 17's rules of bytes: their number, and an LL word of at most 1. No `TryFrom`, as neither the bytes nor the state are a type of this crate.
 pub fn decode(bytes: &[u8]) -> Result<State, Refusal>
     ensures { result ≡ Spec.decoded_of bytes.now }
 {
@@ -20,8 +19,9 @@ pub fn decode(bytes: &[u8]) -> Result<State, Refusal>
     if ll > 1 {
         return Err(Refusal::State);
     }
+    let registers = words::<32>(bytes, 0);
     Ok(State {
-        registers: words::<32>(bytes, 0),
+        registers,
         special: Special {
             hi,
             lo,

@@ -14,12 +14,13 @@ fn put<const N: usize>(words: [u32; N], bytes: &mut [u8; LENGTH], at: usize)
     requires { at + 4 * N ≤ 164 }
     ensures { bytes.new ≡ stores_of bytes.old at words.entry }
 {
-    for k in 0..N {
-        store::<4>(bytes, at + 4 * k, words[k]);
+    // Not over the bytes by chunks_exact_mut: what is written through its parts is not known when the loan is over.
+    for (k, word) in words.iter().enumerate() {
+        store::<4>(bytes, at + 4 * k, *word);
     }
 }
 
-// A refusal leaves the bytes as they were.
+// A refusal leaves the bytes as they were. No `From`, as neither the state nor the bytes are a type of this crate.
 #[tactic(auto, unfolding(crate::specs::Bytes::encoded_of))]
 pub fn encode(s: State, bytes: &mut [u8]) -> Result<(), Refusal>
     ensures { Spec.encoded (refused_number result) bytes.new ≡ Spec.encoded_of s bytes.old }

@@ -8,9 +8,10 @@ use lib.Bits.{bit_and, bit_or, or_comm, and_le_r}
 use Rattle.std.specs.Prelude.{Option, Some, None}
 use Rattle.word.proofs.Bits.{mask_multiple, or_sum}
 use Rattle.isa.specs.declared.kind.Instruction.{Instruction}
-use Rattle.class.specs.declared.Width.{Width}
-use Rattle.class.specs.declared.Width.TheVariants.{Byte, Half, Word}
-use Rattle.class.specs.Class.{bytes_of, class_of}
+use Rattle.isa.specs.declared.width.Width.{Width}
+use Rattle.isa.specs.declared.width.Width.TheVariants.{Byte, Half, Word}
+use Rattle.isa.specs.Width.{bytes_of}
+use Rattle.class.specs.Class.{width_accessed}
 use Rattle.layout.specs.declared.Layout.{Layout}
 use Rattle.layout.proofs.Sizes.{divides}
 use Rattle.rules.specs.Offset.{offset_of}
@@ -64,7 +65,7 @@ sum_width (Some Word) u b d o p q r = omega arith
 pub fits_mask : (l : Layout) (a : Area) (x : Instruction) → Uses a x → (v m : ℕ) → Fits l a x m → Fits l a x (bit_and v m)
 fits_mask l Data x u v m (o, (z, (p, (q, r)))) =
     let h : bit_and v m ≤ m = and_le_r v m in
-    (o, (z, (mask_width (class_of x.kind).width u v m p, (q, omega arith))))
+    (o, (z, (mask_width (width_accessed x.kind) u v m p, (q, omega arith))))
 fits_mask l Code x u v m (p, q) =
     let h : bit_and v m ≤ m = and_le_r v m in
     (mask_multiple 4 v m p, omega arith)

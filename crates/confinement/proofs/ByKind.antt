@@ -24,7 +24,6 @@ use Rattle.isa.specs.declared.kind.Access.TheVariants.{Lb, Lbu, Sb, Lh, Lhu, Sh,
 use Rattle.isa.specs.declared.kind.Branch.{Branch}
 use Rattle.isa.specs.declared.kind.Branch.TheVariants.{J, Jal, Jr, Jalr, Beq, Bne, Blez, Bgtz, Bltz, Bgez, Bltzal, Bgezal}
 use Rattle.isa.specs.declared.kind.Trap.{Trap}
-use Rattle.isa.specs.declared.kind.Trap.TheVariants.{Tge, Tgeu, Tlt, Tltu, Teq, Tne, Tgei, Tgeiu, Tlti, Tltiu, Teqi, Tnei}
 use Rattle.isa.specs.declared.kind.System.{System}
 use Rattle.isa.specs.declared.kind.System.TheVariants.{Syscall, Break, Rfe, Mfc0, Mtc0, Sync}
 use Rattle.isa.specs.declared.kind.Kind.{Kind}
@@ -32,7 +31,8 @@ use Rattle.isa.specs.declared.kind.Kind.TheVariants as K
 use Rattle.isa.specs.declared.kind.Instruction.{Instruction}
 use Rattle.class.specs.declared.Flow.{Flow}
 use Rattle.class.specs.declared.Flow.TheVariants.{Onward, Relative, Region, Register}
-use Rattle.class.specs.Class.{bytes_of, class_of, named}
+use Rattle.isa.specs.Width.{bytes_of}
+use Rattle.class.specs.Class.{class_of, width_accessed, named}
 use Rattle.effect.specs.declared.effect.Special.{Special}
 use Rattle.effect.specs.declared.effect.Effect.{Effect}
 use Rattle.effect.specs.declared.effect.Effect.TheVariants.{Advance, Write, Pair, Jump, Link, LoadByte, LoadHalf, LoadWord, LoadLinked, StoreByte, StoreHalf, StoreWord, StoreLinked, Control, Return}
@@ -42,7 +42,7 @@ use Rattle.effect.specs.Exit.{number_of}
 use Rattle.arithmetic.specs.Arithmetic.{alu_of, immediate_of, shift_of, multiply_of, checked, product, divided}
 use Rattle.access.specs.Access.{access_of, address_of, reaches, load_if, store_if, conditional}
 use Rattle.branch.specs.Branch.{slot_of, relative_of, region_of, branch_of, branch_if, link_if, jump_if}
-use Rattle.trap.specs.Trap.{trap_of, trap_if}
+use Rattle.trap.specs.Trap.{condition, trap_if, trap_of}
 use Rattle.system.specs.System.{is_user, system_of, system_call_of, breakpoint_of, privileged}
 use Rattle.decision.specs.Decision.{by_kind, decision_of}
 use Rattle.view.specs.Guard.{is_mask, is_merge}
@@ -61,7 +61,7 @@ Leads Register i a c t = t ≡ a
 -- neither an access nor a branch, nor a word of a guard
 pub record Idle (k : Kind) : Type 0 where
   pub onward : (class_of k).flow ≡ Onward
-  pub no_access : bytes_of (class_of k).width ≡ 0
+  pub no_access : bytes_of (width_accessed k) ≡ 0
   pub no_mask : is_mask k ≡ false
   pub no_merge : is_merge k ≡ false
 
@@ -74,7 +74,7 @@ Unbarred k v =
 -- why it exits by number e
 pub data Leaves (k : Kind) (i : Instruction) (a : ℕ) (c : Special) (n e : ℕ) : Type 0 where
   allowed : Allowed e → Idle k → Leaves k i a c n e
-  unreached : Not (bytes_of (class_of k).width ≡ 0) → reaches (bytes_of (class_of k).width) (address_of a i.value) n ≡ false → Leaves k i a c n e
+  unreached : Not (bytes_of (width_accessed k) ≡ 0) → reaches (bytes_of (width_accessed k)) (address_of a i.value) n ≡ false → Leaves k i a c n e
   unaligned : (class_of k).flow ≡ Register → eqb (a % 4) 0 ≡ false → Leaves k i a c n e
   barred : Not (Unbarred k i.value) → Leaves k i a c n e
   kernel : is_user c.status ≡ false → Leaves k i a c n e
@@ -158,22 +158,22 @@ module _ {k : Kind} {i : Instruction} {a : ℕ} {c : Special} {n : ℕ} where
   unfolding privileged
   privileges x u f = either (is_user c.status) (λ _. exits (barred u)) f
 
-  misses : (w : ℕ) (x : Exit) → bytes_of (class_of k).width ≡ w → T (ltb 0 w) → reaches w (address_of a i.value) n ≡ false → Obeys k i a c n (Err x)
+  misses : (w : ℕ) (x : Exit) → bytes_of (width_accessed k) ≡ w → T (ltb 0 w) → reaches w (address_of a i.value) n ≡ false → Obeys k i a c n (Err x)
   misses w x q t z =
-      let u : reaches (bytes_of (class_of k).width) (address_of a i.value) n ≡ false = rw q z in
+      let u : reaches (bytes_of (width_accessed k)) (address_of a i.value) n ≡ false = rw q z in
       exits (unreached (wide _ w q t) u)
 
-  loads : (w : ℕ) {e : Effect} → bytes_of (class_of k).width ≡ w → T (ltb 0 w) → Obeys k i a c n (Ok e) → Obeys k i a c n (load_if (reaches w (address_of a i.value) n) e)
+  loads : (w : ℕ) {e : Effect} → bytes_of (width_accessed k) ≡ w → T (ltb 0 w) → Obeys k i a c n (Ok e) → Obeys k i a c n (load_if (reaches w (address_of a i.value) n) e)
   unfolding load_if
   loads w q t f = either _ (λ _. f) (misses w E.Load q t)
 
-  stores : (w : ℕ) {e : Effect} → bytes_of (class_of k).width ≡ w → T (ltb 0 w) → Obeys k i a c n (Ok e) → Obeys k i a c n (store_if (reaches w (address_of a i.value) n) e)
+  stores : (w : ℕ) {e : Effect} → bytes_of (width_accessed k) ≡ w → T (ltb 0 w) → Obeys k i a c n (Ok e) → Obeys k i a c n (store_if (reaches w (address_of a i.value) n) e)
   unfolding store_if
   stores w q t f = either _ (λ _. f) (misses w E.Store q t)
 
 -- ---- the instructions
 
-idle : {k : Kind} → (class_of k).flow ≡ Onward → bytes_of (class_of k).width ≡ 0 → is_mask k ≡ false → is_merge k ≡ false → Idle k
+idle : {k : Kind} → (class_of k).flow ≡ Onward → bytes_of (width_accessed k) ≡ 0 → is_mask k ≡ false → is_merge k ≡ false → Idle k
 idle f w a o = record { onward = f; no_access = w; no_mask = a; no_merge = o }
 
 module _ (i : Instruction) (a b : ℕ) (c : Special) (n : ℕ) where
@@ -262,18 +262,7 @@ module _ (i : Instruction) (a b : ℕ) (c : Special) (n : ℕ) where
   branch_obeys Bgezal = links Bgezal refl _ refl
 
   trap_obeys : (k : Trap) → Obeys (K.Trap k) i a c n (trap_of k a b i.value)
-  trap_obeys Tge = traps _ refl (idle refl refl refl refl)
-  trap_obeys Tgeu = traps _ refl (idle refl refl refl refl)
-  trap_obeys Tlt = traps _ refl (idle refl refl refl refl)
-  trap_obeys Tltu = traps _ refl (idle refl refl refl refl)
-  trap_obeys Teq = traps _ refl (idle refl refl refl refl)
-  trap_obeys Tne = traps _ refl (idle refl refl refl refl)
-  trap_obeys Tgei = traps _ refl (idle refl refl refl refl)
-  trap_obeys Tgeiu = traps _ refl (idle refl refl refl refl)
-  trap_obeys Tlti = traps _ refl (idle refl refl refl refl)
-  trap_obeys Tltiu = traps _ refl (idle refl refl refl refl)
-  trap_obeys Teqi = traps _ refl (idle refl refl refl refl)
-  trap_obeys Tnei = traps _ refl (idle refl refl refl refl)
+  trap_obeys k = traps (condition k a b i.value) refl (idle refl refl refl refl)
 
   calls : Obeys (K.System Syscall) i a c n (Err (system_call_of i.value c.status))
   unfolding system_call_of

@@ -16,7 +16,7 @@ use Rattle.word.specs.Bytes.{load_of}
 use Rattle.word.proofs.Memory.{load_lt}
 use Rattle.isa.specs.declared.kind.Kind.{Kind}
 use Rattle.isa.specs.declared.kind.Instruction.{Instruction}
-use Rattle.class.specs.Class.{class_of}
+use Rattle.class.specs.Class.{width_accessed}
 use Rattle.isa.specs.Reading.{read_of}
 use Rattle.isa.proofs.RoundTrip.{Operands, read_operands}
 use Rattle.effect.specs.declared.effect.Special.{Special}
@@ -136,7 +136,7 @@ module _ (l : Layout) (len : ℕ) (img : List ℕ) (ok : Lawful l len img) (s : 
       record {
         within = (omega (arith, e), omega (arith, e, f));
         aligned =
-            ap (λ (x : ℕ). x % width_of here) e ∙ sum_width (class_of here.kind).width u l.data_base d o (base_aligned l len img ok Data) q r;
+            ap (λ (x : ℕ). x % width_of here) e ∙ sum_width (width_accessed here.kind) u l.data_base d o (base_aligned l len img ok Data) q r;
       }
 
   -- JR and JALR lead to a bundle

@@ -1,7 +1,7 @@
 -- Every effect of an instruction with operands in range is sound: one clause for each instruction.
 use Prim.Native.Nat.{ℕ, ◌+◌, ◌%◌, ◌^◌, ◌<◌}
 use mathlib.Core.Path.{◌≡◌, refl}
-use mathlib.Core.Bool.{Bool, true, false, cond, not, ◌&&◌}
+use mathlib.Core.Bool.{Bool, true, false, cond}
 use lib.IntN.{ℤ, ◌*ℤ◌}
 use lib.Signed.{quot_z, rem_z, shr_z}
 use native.Mathlib.Omega.{arith}
@@ -13,7 +13,8 @@ use Rattle.std.specs.Prelude.{Result, Ok, Err}
 use Rattle.word.specs.Number.{signed_of, fits_of}
 use Rattle.std.proofs.lemmas.Nat.{mul-lt}
 use Rattle.word.proofs.Numbers.{wrap_below}
-use Rattle.class.specs.Class.{bytes_of, class_of}
+use Rattle.isa.specs.Width.{bytes_of}
+use Rattle.class.specs.Class.{width_accessed}
 use Rattle.isa.proofs.RoundTrip.{Operands}
 use Rattle.isa.specs.declared.kind.Instruction.{Instruction}
 use Rattle.isa.specs.declared.kind.Alu.{Alu}
@@ -29,7 +30,8 @@ use Rattle.isa.specs.declared.kind.Access.TheVariants.{Lb, Lbu, Sb, Lh, Lhu, Sh,
 use Rattle.isa.specs.declared.kind.Branch.{Branch}
 use Rattle.isa.specs.declared.kind.Branch.TheVariants.{J, Jal, Jr, Jalr, Beq, Bne, Blez, Bgtz, Bltz, Bgez, Bltzal, Bgezal}
 use Rattle.isa.specs.declared.kind.Trap.{Trap}
-use Rattle.isa.specs.declared.kind.Trap.TheVariants.{Tge, Tgeu, Tlt, Tltu, Teq, Tne, Tgei, Tgeiu, Tlti, Tltiu, Teqi, Tnei}
+use Rattle.isa.specs.declared.control.Control as C
+use Rattle.isa.specs.declared.control.Control.TheVariants.{BadAddress, Status, Cause, ReturnAddress}
 use Rattle.isa.specs.declared.kind.System.{System}
 use Rattle.isa.specs.declared.kind.System.TheVariants.{Syscall, Break, Rfe, Mfc0, Mtc0, Sync}
 use Rattle.isa.specs.declared.kind.Kind.{Kind}
@@ -42,8 +44,8 @@ use Rattle.effect.specs.declared.effect.Effect.TheVariants.{Advance, Write, Pair
 use Rattle.arithmetic.specs.Arithmetic.{alu_of, immediate_of, shift_of, multiply_of, bit, checked, product, divided, shifted_left, shifted_right, shifted_signed}
 use Rattle.access.specs.Access.{access_of, address_of, reaches, load_if, store_if, conditional}
 use Rattle.branch.specs.Branch.{branch_of, branch_if, link_if, jump_if, link_of}
-use Rattle.trap.specs.Trap.{trap_of, trap_if}
-use Rattle.system.specs.System.{system_of, control_of, restored, privileged, is_user}
+use Rattle.trap.specs.Trap.{condition, trap_if, trap_of}
+use Rattle.system.specs.System.{system_of, control_named, control_of, restored, privileged, is_user}
 use Rattle.branch.proofs.Targets.{slot_aligned, relative_aligned, region_aligned}
 use Rattle.decision.specs.Decision.{by_kind, decision_of}
 use Rattle.effect.specs.Sound.{Sound, Reach, Register, Word, Aligned, Regular}
@@ -178,7 +180,7 @@ module _ {n : ℕ} where
     unfolding conditional
     conditional_sound h ll a b l = one_of ll (record { keeps = (h, l) }) (writes h (omega arith))
 
-  access_sound : {rt : ℕ} → Register rt → (k : Access) (a b v : ℕ) (ll : Bool) → Sound (access_of k rt a b v ll n) n (address_of a v) (bytes_of (class_of (K.Access k)).width)
+  access_sound : {rt : ℕ} → Register rt → (k : Access) (a b v : ℕ) (ll : Bool) → Sound (access_of k rt a b v ll n) n (address_of a v) (bytes_of (width_accessed (K.Access k)))
   access_sound h Lb a b v ll = loads _ _ (λ e. record { keeps = (h, reach _ _ e) })
   access_sound h Lbu a b v ll = loads _ _ (λ e. record { keeps = (h, reach _ _ e) })
   access_sound h Sb a b v ll = stores _ _ (λ e. record { keeps = reach _ _ e })
@@ -232,27 +234,13 @@ unfolding trap_if
 traps t = either t (λ _. exits _) advances
 
 trap_sound : {n at w : ℕ} (k : Trap) (a b v : ℕ) → Sound (trap_of k a b v) n at w
-trap_sound Tge a b v = traps _
-trap_sound Tgeu a b v = traps _
-trap_sound Tlt a b v = traps _
-trap_sound Tltu a b v = traps _
-trap_sound Teq a b v = traps _
-trap_sound Tne a b v = traps _
-trap_sound Tgei a b v = traps _
-trap_sound Tgeiu a b v = traps _
-trap_sound Tlti a b v = traps _
-trap_sound Tltiu a b v = traps _
-trap_sound Teqi a b v = traps _
-trap_sound Tnei a b v = traps _
+trap_sound k a b v = traps (condition k a b v)
 
-word_either : (t : Bool) {x y : ℕ} → Word x → Word y → Word (cond t x y)
-word_either t h k = by_test Word t (λ _. h) (λ _. k)
-
-control_below : {s : Special} → Regular s → (d : ℕ) → Word (control_of s d)
-unfolding control_of
-control_below r d =
-    word_either (eqb d 8) r.bad
-    (word_either (eqb d 12) (omega (arith, r.status)) (word_either (eqb d 13) r.cause r.epc))
+control_below : {s : Special} → Regular s → (c : C.Control) → Word (control_of s c)
+control_below r BadAddress = r.bad
+control_below r Status = omega (arith, r.status)
+control_below r Cause = r.cause
+control_below r ReturnAddress = r.epc
 
 restored_below : (status : ℕ) → restored status < 2 ^ 13
 unfolding restored
@@ -267,14 +255,14 @@ module _ {n at w rt b : ℕ} {s : Special} (h : Register rt) (hb : Word b) (r : 
   system_sound Syscall rd v = exits _
   system_sound Break rd v = exits _
   system_sound Rfe rd v = guarded _ _ (record { keeps = restored_below s.status })
-  system_sound Mfc0 rd v = guarded _ _ (writes h (control_below r rd))
+  system_sound Mfc0 rd v = guarded _ _ (writes h (control_below r (control_named rd)))
   system_sound Mtc0 rd v = guarded _ _ (record { keeps = hb })
   system_sound Sync rd v = advances
 
 -- ---- every instruction
 
 module _ (i : Instruction) (o : Operands i) {a b : ℕ} (ha : Word a) (hb : Word b) {s : Special} (r : Regular s) (n : ℕ) where
-  by_kind_law : (k : Kind) → Sound (by_kind k i a b s n) n (address_of a i.value) (bytes_of (class_of k).width)
+  by_kind_law : (k : Kind) → Sound (by_kind k i a b s n) n (address_of a i.value) (bytes_of (width_accessed k))
   by_kind_law (K.Alu k) = alu_sound o.rd ha hb k
   by_kind_law (K.Immediate k) = immediate_sound o.rt ha hb k i.value
   by_kind_law (K.Shift k) = shift_sound o.rd ha hb k i.shift
@@ -284,6 +272,6 @@ module _ (i : Instruction) (o : Operands i) {a b : ℕ} (ha : Word a) (hb : Word
   by_kind_law (K.Trap k) = trap_sound k a b i.value
   by_kind_law (K.System k) = system_sound o.rt hb r k i.rd i.value
 
-  pub decision_sound : Sound (decision_of i a b s n) n (address_of a i.value) (bytes_of (class_of i.kind).width)
+  pub decision_sound : Sound (decision_of i a b s n) n (address_of a i.value) (bytes_of (width_accessed i.kind))
   unfolding decision_of
   decision_sound = by_kind_law i.kind

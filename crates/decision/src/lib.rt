@@ -1,5 +1,6 @@
-// The effect of an instruction, or the exit in which it ends. a is GPR[rs], b is GPR[rt], n the memory's length. Each group is handed what its instructions look at and no more, so that
-// its head says what they depend on: a struct of all that they share would not.
+// The effect of an instruction, or the exit in which it ends. a is GPR[rs], b is GPR[rt], n the memory's length. Each group is handed what its
+// instructions look at, and `system`, where an instruction names a register, all of them: a head says what they depend on, which a struct of all that
+// they share would not.
 #![tactic(auto)]
 
 ghost use Rattle.std.specs.Prelude.{◌≡◌};

@@ -1,14 +1,15 @@
 -- The last of accesses in turn, and their widths.
 use Prim.Native.Nat.{ℕ}
 use mathlib.Core.Path.{◌≡◌, refl}
-use mathlib.Core.Logic.{⊎_elim, ◌⊎◌, inl, inr}
+use mathlib.Core.Logic.{◌⊎◌, inl, inr}
 use native.Mathlib.Omega.{arith}
 use Rattle.std.specs.Prelude.{Option, None, Some}
-use Rattle.effect.specs.declared.effect.Effect.{Effect}
-use Rattle.effect.specs.declared.effect.Effect.TheVariants.{Advance, Write, Pair, Jump, Link, LoadByte, LoadHalf, LoadWord, LoadLinked, StoreByte, StoreHalf, StoreWord, StoreLinked, Control, Return}
+use Rattle.isa.specs.declared.width.Width as W
+use Rattle.isa.specs.declared.width.Width.TheVariants.{Byte, Half, Word}
+use Rattle.isa.specs.Width.{bytes_in}
 use Rattle.effect.specs.declared.effect.Touched.{Touched}
 use Rattle.effect.specs.declared.effect.Touched.TheVariants.{Load, Store}
-use Rattle.effect.specs.Touched.{touched_of, last_of}
+use Rattle.effect.specs.Touched.{last_of}
 
 -- none before
 pub last_first : (t : Option Touched) → last_of None t ≡ t
@@ -31,31 +32,22 @@ last_none x y e = rw e
 abbrev pub Width : ℕ → Type 0
 Width w = (w ≡ 1) ⊎ ((w ≡ 2) ⊎ (w ≡ 4))
 
-pub width_some : (w : ℕ) → Width w → w ≡ 0 → ⊥
-width_some w h z = ⊎_elim (λ e. omega (arith, e, z)) (⊎_elim (λ e. omega (arith, e, z)) (λ e. omega (arith, e, z))) h
+bytes_width : (w : W.Width) → Width (bytes_in w)
+bytes_width Byte = inl refl
+bytes_width Half = inr (inl refl)
+bytes_width Word = inr (inr refl)
+
+pub width_some : (w : W.Width) → bytes_in w ≡ 0 → ⊥
+width_some Byte z = omega (arith, z)
+width_some Half z = omega (arith, z)
+width_some Word z = omega (arith, z)
 
 abbrev pub Wide : Option Touched → Type 0
 Wide None = Unit {0}
-Wide (Some (Load a w)) = Width w
-Wide (Some (Store a w)) = Width w
+Wide (Some (Load a w)) = Width (bytes_in w)
+Wide (Some (Store a w)) = Width (bytes_in w)
 
-pub touched_wide : (e : Effect) → Wide (touched_of e)
-touched_wide Advance = tt
-touched_wide (Write r v) = tt
-touched_wide (Pair h l) = tt
-touched_wide (Jump t) = tt
-touched_wide (Link r v t) = tt
-touched_wide (LoadByte r a s) = inl refl
-touched_wide (LoadHalf r a s) = inr (inl refl)
-touched_wide (LoadWord r a) = inr (inr refl)
-touched_wide (LoadLinked r a) = inr (inr refl)
-touched_wide (StoreByte a v) = inl refl
-touched_wide (StoreHalf a v) = inr (inl refl)
-touched_wide (StoreWord a v) = inr (inr refl)
-touched_wide (StoreLinked r a v) = inr (inr refl)
-touched_wide (Control r v) = tt
-touched_wide (Return s) = tt
-
-pub last_wide : (x y : Option Touched) → Wide x → Wide y → Wide (last_of x y)
-last_wide x None p q = p
-last_wide x (Some t) p q = q
+pub wide : (t : Option Touched) → Wide t
+wide None = tt
+wide (Some (Load a w)) = bytes_width w
+wide (Some (Store a w)) = bytes_width w

@@ -1,5 +1,7 @@
 -- What a step touches: the memory access that it completes, with address, width and direction (document 02, Ticket 1).
 use Rattle.std.specs.Prelude.{ℕ, ◌≡◌, Option, None, Some}
+use Rattle.isa.specs.declared.width.Width.TheVariants.{Byte, Half, Word}
+use Rattle.isa.specs.Width.{bytes_in}
 use Rattle.effect.specs.declared.effect.Effect.{Effect}
 use Rattle.effect.specs.declared.effect.Effect.TheVariants.{Advance, Write, Pair, Jump, Link, LoadByte, LoadHalf, LoadWord, LoadLinked, StoreByte, StoreHalf, StoreWord, StoreLinked, Control, Return}
 use Rattle.effect.specs.declared.effect.Touched.{Touched}
@@ -13,14 +15,14 @@ touched_of (Write r v) = None
 touched_of (Pair h l) = None
 touched_of (Jump t) = None
 touched_of (Link r v t) = None
-touched_of (LoadByte r a s) = Some (Load a 1)
-touched_of (LoadHalf r a s) = Some (Load a 2)
-touched_of (LoadWord r a) = Some (Load a 4)
-touched_of (LoadLinked r a) = Some (Load a 4)
-touched_of (StoreByte a v) = Some (Store a 1)
-touched_of (StoreHalf a v) = Some (Store a 2)
-touched_of (StoreWord a v) = Some (Store a 4)
-touched_of (StoreLinked r a v) = Some (Store a 4)
+touched_of (LoadByte r a s) = Some (Load a Byte)
+touched_of (LoadHalf r a s) = Some (Load a Half)
+touched_of (LoadWord r a) = Some (Load a Word)
+touched_of (LoadLinked r a) = Some (Load a Word)
+touched_of (StoreByte a v) = Some (Store a Byte)
+touched_of (StoreHalf a v) = Some (Store a Half)
+touched_of (StoreWord a v) = Some (Store a Word)
+touched_of (StoreLinked r a v) = Some (Store a Word)
 touched_of (Control r v) = None
 touched_of (Return s) = None
 
@@ -30,8 +32,8 @@ cell a w d = record { address = a; width = w; store = d }
 -- the three numbers of each case
 abbrev pub cell_of : Option Touched → Cell
 cell_of None = cell 0 0 0
-cell_of (Some (Load a w)) = cell a w 0
-cell_of (Some (Store a w)) = cell a w 1
+cell_of (Some (Load a w)) = cell a (bytes_in w) 0
+cell_of (Some (Store a w)) = cell a (bytes_in w) 1
 
 abbrev pub IsCellOf : Option Touched → Cell → Type 0
 IsCellOf t c = c ≡ cell_of t

@@ -1,6 +1,10 @@
 // What a step that completes does, and what it is decided from beside the instruction, its two source registers and the memory's length.
 
-// The registers of a state beside its 32 general ones: HI, LO, the program counters, the LL bit, control registers 8, 12, 13 and 14.
+use isa::control::Control;
+use isa::width::Width;
+
+// The registers of a state beside its 32 general ones: HI, LO, the program counters, the LL bit, control registers 8, 12, 13 and 14. The order is by
+// measure (docs/DECISIONS.md).
 #[derive(Clone, Copy)]
 pub struct Special {
     pub hi: u32,
@@ -14,6 +18,13 @@ pub struct Special {
     pub epc: u32,
 }
 
+// What the upper bits of a register get where a byte or half is loaded.
+#[derive(Clone, Copy)]
+pub enum Extension {
+    Zero,
+    Sign,
+}
+
 // Every effect but Jump and Link also moves the program counters on by one instruction. The order is one in which the compiler makes quick code of a
 // run's loop: it decides where the arms stand, and nothing else.
 // A case for each width: `apply` hands the width on as a const parameter, and would have to match a width that is a value all the same.
@@ -24,9 +35,9 @@ pub enum Effect {
     Write(u32, u32),
     // HI, LO.
     Pair(u32, u32),
-    // Register, address, sign-extended.
-    LoadByte(u32, u32, bool),
-    LoadHalf(u32, u32, bool),
+    // Register, address, extension.
+    LoadByte(u32, u32, Extension),
+    LoadHalf(u32, u32, Extension),
     // Register, address.
     LoadWord(u32, u32),
     LoadLinked(u32, u32),
@@ -37,7 +48,7 @@ pub enum Effect {
     // Status.
     Return(u32),
     // Control register, value.
-    Control(u32, u32),
+    Control(Control, u32),
     // Address, value.
     StoreByte(u32, u32),
     StoreHalf(u32, u32),
@@ -50,8 +61,8 @@ pub enum Effect {
 #[derive(Clone, Copy)]
 pub enum Touched {
     // Address, width.
-    Load(u32, u32),
-    Store(u32, u32),
+    Load(u32, Width),
+    Store(u32, Width),
 }
 
 // An access in numbers, as C gets it: width 0 where there is no access; store 1 for a store, 0 for a load.
@@ -70,8 +81,8 @@ impl From<Option<Touched>> for Cell {
     fn from(t: Option<Touched>) -> Cell {
         let (address, width, store) = match t {
             None => (0, 0, 0),
-            Some(Touched::Load(a, w)) => (a, w, 0),
-            Some(Touched::Store(a, w)) => (a, w, 1),
+            Some(Touched::Load(a, w)) => (a, u32::from(w), 0),
+            Some(Touched::Store(a, w)) => (a, u32::from(w), 1),
         };
         Cell {
             address,

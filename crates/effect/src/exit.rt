@@ -2,6 +2,8 @@
 ghost use Rattle.std.specs.Prelude.{◌≡◌};
 ghost use Rattle.effect.specs.Exit.{exit_number};
 
+use refusal::Ending;
+
 #[derive(Clone, Copy, PartialEq, Eq)]
 pub enum Exit {
     IntegerOverflow = 40,
@@ -22,6 +24,8 @@ pub enum Exit {
     StopCores = 52,
 }
 
+impl Ending for Exit {}
+
 impl From<Exit> for u32 {
     ghost use Rattle.effect.specs.Exit.{IsNumberOf};
 
@@ -32,7 +36,7 @@ impl From<Exit> for u32 {
     }
 }
 
-// 0 where there is no exit.
+// 0 where there is no exit, as C gets it: no From, since neither type is this crate's.
 pub fn number(exit: Option<Exit>) -> u32
     ensures { result ≡ exit_number exit }
 {

@@ -15,6 +15,7 @@ use Rattle.isa.specs.Reading.{fits, decode_of, read_fields, read_of}
 use Rattle.effect.specs.declared.effect.Effect.{Effect}
 use Rattle.effect.specs.declared.exit.Exit.{Exit}
 use Rattle.std.specs.Prelude.{Option, None, Some, Result, Err}
+use Rattle.isa.specs.declared.width.Width.TheVariants.{Word}
 use Rattle.effect.specs.declared.effect.Touched.{Touched}
 use Rattle.effect.specs.declared.effect.Touched.TheVariants.{Store}
 use Rattle.effect.specs.Touched.{cell, cell_of}
@@ -103,7 +104,7 @@ storing m v = store_of 4 m 0x20000 v
 record Steps (m : List ℕ) : Type 0 where
   andi : step_of (sample_at 0x10000 0x10004 0xFFFFFFC0) m ≡ outcome 0 (sample_at 0x10004 0x10008 0) m
   or : step_of (sample_at 0x10004 0x10008 0) m ≡ outcome 0 (sample_at 0x10008 0x1000C 0x20000) m
-  sw : step_of (sample_at 0x10008 0x1000C 0x20000) m ≡ stepped 0 (Some (Store 0x20000 4)) (sample_at 0x1000C 0x10010 0x20000) (storing m 0x04030201)
+  sw : step_of (sample_at 0x10008 0x1000C 0x20000) m ≡ stepped 0 (Some (Store 0x20000 Word)) (sample_at 0x1000C 0x10010 0x20000) (storing m 0x04030201)
   syscall : (x : ℕ) → step_of (sample_at 0x1000C 0x10010 x) m ≡ outcome 46 (sample_at 0x1000C 0x10010 x) m
   nop_4 : step_of (sample_at 0x10010 0x10014 5) m ≡ outcome 0 (sample_at 0x10014 0x10018 5) m
   nop_5 : step_of (sample_at 0x10014 0x10018 5) m ≡ outcome 0 (sample_at 0x10018 0x1001C 5) m

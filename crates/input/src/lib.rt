@@ -24,3 +24,13 @@ pub fn read_full<R: Read>(input: &mut R, buffer: &mut [u8]) -> io::Result<usize>
     }
     Ok(done)
 }
+
+// The part that was filled. It holds the buffer, so that the bytes are said of the part alone; what the loop leaves in the buffer is said by read_full.
+pub fn read_part<'a, R: Read>(input: &mut R, buffer: &'a mut [u8]) -> io::Result<&'a [u8]>
+    ensures bound { IfOk result (λ part. length part.now ≤ length buffer.old) }
+    ensures bytes { IfOk result (λ part. Consumes (R.remaining input.old) (R.remaining input.new) part.now) }
+    ensures end { IfOk result (λ part. length part.now < length buffer.old → IsAtEnd (R.remaining input.new)) }
+{
+    let n = read_full(input, buffer)?;
+    Ok(&buffer[..n])
+}

@@ -4,3 +4,4 @@ pub mod Control
 pub mod Reading
 pub mod Writing
 pub mod Number
+pub mod Width

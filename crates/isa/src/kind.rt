@@ -124,7 +124,8 @@ pub enum Kind {
     System(System),
 }
 
-// An instruction; a field that its kind does not have is 0. `value` is the raw constant, offset, jump index, code or stype.
+// An instruction; a field that its kind does not have is 0. `value` is the raw constant, offset, jump index, code or stype. Flat: document
+// 01 has these fields, and cc100_instruction of the C interface is made of them one by one.
 #[derive(Clone, Copy, PartialEq, Eq)]
 pub struct Instruction {
     pub kind: Kind,

@@ -6,4 +6,6 @@ mod drawing;
 pub mod format;
 pub mod kind;
 mod number;
+pub mod register;
 mod row;
+pub mod width;

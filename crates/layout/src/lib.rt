@@ -1,17 +1,18 @@
 // The sandbox layout: where a module's code and data lie in memory, and what is refused of it.
 #![tactic(auto)]
 
-ghost use Rattle.std.specs.Prelude.{◌≡◌, ◌&&◌, leb, true};
+ghost use Rattle.std.specs.Prelude.{◌≡◌, ◌+◌, ◌&&◌, leb, true};
 ghost use Rattle.std.specs.Int.{is_power_of_two};
 ghost use Rattle.refusal.specs.Refusal.{refused_number};
 ghost use Rattle.layout.specs.Layout as Spec;
 
-use refusal::Refusal;
+use refusal::{Ending, Refusal};
 use word::bytes;
 
-// The largest area, in bytes.
-const LARGEST: u32 = 65536;
+// The largest area, and so the longest module, in bytes.
+pub const LARGEST: u32 = 65536;
 
+// Four numbers and no type of areas, as document 01 and the C interface have them.
 #[derive(Clone, Copy)]
 pub struct Layout {
     pub code_base: u32,
@@ -37,13 +38,19 @@ fn is_placed(base: u32, size: u32, length: u64) -> bool
 }
 
 impl Layout {
+    // The address after the code, 64 bits wide, so that it does not wrap, whatever the layout.
+    pub fn code_end(self) -> u64
+        ensures { result ≡ self.code_base + self.code_size }
+    {
+        u64::from(self.code_base) + u64::from(self.code_size)
+    }
+
     #[tactic(auto, unfolding(crate::specs::Layout::is_apart))]
     fn is_apart(self) -> bool
         ensures { result ≡ Spec.is_apart self }
     {
-        let code_end = u64::from(self.code_base) + u64::from(self.code_size);
         let data_end = u64::from(self.data_base) + u64::from(self.data_size);
-        code_end <= u64::from(self.data_base) || data_end <= u64::from(self.code_base)
+        self.code_end() <= u64::from(self.data_base) || data_end <= u64::from(self.code_base)
     }
 
     // Refused by the first of the rules 1 to 6 that is broken.

@@ -5,7 +5,7 @@ use std::io::Write;
 use std::{fmt, io};
 
 // The longest module, in bytes.
-const LONGEST_MODULE: usize = 65536;
+const LONGEST_MODULE: usize = layout::LARGEST as usize;
 
 // A word of a module and its index, as the listing writes them.
 #[derive(Drop)]
@@ -28,6 +28,7 @@ impl fmt::Display for Line {
     }
 }
 
+// A function that writes and no Display, here and below: these are lines, as many as there are words, or none.
 fn print_words(out: &mut impl Write, image: &[u8]) -> io::Result<()> {
     for (index, bytes) in image.chunks_exact(4).enumerate() {
         let word = word::bytes::load::<4>(bytes, 0);
@@ -53,10 +54,11 @@ fn print_left_over(out: &mut impl Write, bytes: usize, longer: bool) -> io::Resu
 fn main(rt: HostRuntime) -> io::Result<()> {
     let mut input = rt.stdin();
     let mut out = rt.stdout();
+    // Of fixed size, this and the next, as nothing is allocated.
     let mut space = [0u8; LONGEST_MODULE];
-    let n = input::read_full(&mut input, &mut space)?;
-    print_words(&mut out, &space[..n])?;
+    let image = input::read_part(&mut input, &mut space)?;
+    print_words(&mut out, image)?;
     let mut one = [0u8; 1];
-    let longer = input::read_full(&mut input, &mut one)? != 0;
-    print_left_over(&mut out, n % 4, longer)
+    let longer = !input::read_part(&mut input, &mut one)?.is_empty();
+    print_left_over(&mut out, image.len() % 4, longer)
 }

@@ -14,7 +14,7 @@ use Rattle.effect.specs.declared.effect.Special.{Special}
 use Rattle.effect.specs.declared.effect.Effect.{Effect}
 use Rattle.effect.specs.declared.effect.Touched.{Touched}
 use Rattle.effect.specs.Touched.{touched_of, last_of}
-use Rattle.effect.proofs.Touched.{last_first, last_joined, last_some, last_none, Wide, last_wide}
+use Rattle.effect.proofs.Touched.{last_first, last_joined, last_some, last_none, Wide, wide}
 use Rattle.effect.specs.declared.exit.Exit.{Exit}
 use Rattle.effect.specs.Exit as X
 use Rattle.effect.proofs.Exits.{number_range}
@@ -28,7 +28,7 @@ use Rattle.apply.specs.Apply.{applied_of}
 use Rattle.machine.specs.Apply.{joined, apply_of}
 use Rattle.machine.specs.Step.{effect_at, Outcome, outcome, step_of}
 use Rattle.machine.specs.Run.{Course, course, halted, later, repeat_of, run_of, then_of, after_of}
-use Rattle.machine.proofs.Steps.{step_refused, step_exits, step_completes, step_number, step_valid, step_lawful, step_typed, step_bytes, step_length, step_zero, step_wide, exit_leaves, not_refused, refused_alike}
+use Rattle.machine.proofs.Steps.{step_refused, step_exits, step_completes, step_number, step_valid, step_lawful, step_typed, step_bytes, step_length, step_zero, exit_leaves, not_refused, refused_alike}
 use Rattle.machine.proofs.Valid.{Valid, valid, valid_lawful}
 
 -- no step more
@@ -63,24 +63,12 @@ module _ (s : State) (m : List ℕ) (z : refusal_of s (length m) ≡ 0) where
         let p : done + 1 + r.steps ≡ done + (1 + r.steps) = omega arith in
         rw (left, ← step_completes s m z e q l d x a, p, last_joined t (touched_of e) r.touched)
 
-pub turns_begin : (s : State) (m : List ℕ) (b : ℕ) → later 0 None (repeat_of (b - 0) s m) ≡ repeat_of b s m
-turns_begin s m b = let z : b - 0 ≡ b = omega arith in rw z (later_zero (repeat_of b s m))
-
 pub turns_done : (s : State) (m : List ℕ) (done b : ℕ) (t : Option Touched) → b ≤ done → course 0 done t s m ≡ later done t (repeat_of (b - done) s m)
 unfolding repeat_of
 turns_done s m done b t h = let z : b - done ≡ 0 = omega arith in rw z (halted_later done t (outcome 0 s m))
 
-repeat_wide : (n : ℕ) (s : State) (m : List ℕ) → Wide (repeat_of n s m).touched
-unfolding repeat_of
-repeat_wide zero s m = tt
-repeat_wide (suc n) s m =
-    by_zero (λ (r : Course). Wide r.touched) (step_of s m).number
-    (λ _. last_wide (step_of s m).touched (repeat_of n (step_of s m).machine.state (step_of s m).machine.memory).touched (step_wide s m) (repeat_wide n (step_of s m).machine.state (step_of s m).machine.memory))
-    (λ _. tt)
-
 pub run_wide : (n : ℕ) (s : State) (m : List ℕ) → Wide (run_of s m n).touched
-unfolding run_of
-run_wide n s m = by_zero (λ (r : Course). Wide r.touched) (refusal_of s (length m)) (λ _. repeat_wide n s m) (λ _. tt)
+run_wide n s m = wide (run_of s m n).touched
 
 -- the run, by what the code finds
 module _ (s : State) (m : List ℕ) (b : ℕ) where
@@ -94,6 +82,9 @@ module _ (s : State) (m : List ℕ) (b : ℕ) where
   pub run_repeats : refusal_of s (length m) ≡ 0 → repeat_of b s m ≡ run_of s m b
   unfolding run_of
   run_repeats z = rw z
+
+  pub turns_begin : refusal_of s (length m) ≡ 0 → later 0 None (repeat_of (b - 0) s m) ≡ run_of s m b
+  turns_begin h = let z : b - 0 ≡ b = omega arith in rw z (later_zero (repeat_of b s m) ∙ run_repeats h)
 
 -- ---- the repetition
 

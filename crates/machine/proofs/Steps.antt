@@ -7,7 +7,7 @@ use mathlib.Core.Logic.{⊎_elim, ◌⊎◌, inl, inr}
 use native.Mathlib.Omega.{arith}
 use lib.Dec.{leb, ltb}
 use lib.ListN.{length, get_or}
-use borrow.Author.Tests.{ne_eqb, ltb-true, lt-ltb, le-ltb, le-leb, lt-leb}
+use borrow.Author.Tests.{ne_eqb, ltb-true, ltb-false, lt-ltb, le-ltb, le-leb, lt-leb}
 use Rattle.std.specs.Prelude.{Option, Some, None, Result, Ok, Err}
 use Rattle.std.specs.Option.{ok_or}
 use Rattle.word.specs.Bytes.{load_of, store_of, longest}
@@ -22,7 +22,7 @@ use Rattle.effect.specs.declared.effect.Effect.TheVariants.{Advance, Write, Pair
 use Rattle.effect.specs.declared.effect.Touched.{Touched}
 use Rattle.effect.specs.declared.effect.Touched.TheVariants.{Load, Store}
 use Rattle.effect.specs.Touched.{touched_of}
-use Rattle.effect.proofs.Touched.{Wide, touched_wide}
+use Rattle.effect.proofs.Touched.{Wide, wide}
 use Rattle.effect.specs.declared.exit.Exit.{Exit}
 use Rattle.effect.specs.declared.exit.Exit.TheVariants as E
 use Rattle.effect.specs.Exit as X
@@ -32,7 +32,7 @@ use Rattle.effect.specs.Sound.{Sound}
 use Rattle.decision.proofs.Sound.{exits, decision_sound}
 use Rattle.refusal.specs.declared.Refusal.{Refusal}
 use Rattle.refusal.specs.declared.Refusal.TheVariants as R
-use Rattle.refusal.specs.Refusal.{number_of, refused_number, refused_when}
+use Rattle.refusal.specs.Refusal.{number_of, refused_number, refused_when, ended_when}
 use Rattle.refusal.proofs.Numbers.{number_some}
 use Rattle.machine.specs.declared.state.State.{State}
 use Rattle.machine.specs.State.{register_of, special_of, join_of, is_lawful, refusal_of, Typed, Bytes}
@@ -63,9 +63,29 @@ module _ (s : State) (m : List ℕ) (v : Valid s) (b : Bytes m) where
 -- ---- the effect, by what the code finds at each turn
 
 module _ (s : State) (m : List ℕ) where
-  pub fetch_outside_law : length m < s.special.pc + 4 → Err E.Fetch ≡ effect_at s m
+  fetch_outside_law : length m < s.special.pc + 4 → Err E.Fetch ≡ effect_at s m
   unfolding effect_at
   fetch_outside_law h = rw (lt-leb (s.special.pc + 4) (length m) h)
+
+  abbrev past : Bool
+  past = ltb (length m) (s.special.pc + 4)
+
+  outside_by : (t : Bool) → past ≡ t → (x : Exit) → Err x ≡ ended_when E.Fetch t → Err x ≡ effect_at s m
+  outside_by true e x h =
+      let k : ◌≡◌ {A = Result Unit Exit} (Err x) (Err E.Fetch) = h in
+      let q : x ≡ E.Fetch = cc in
+      rw q (fetch_outside_law (ltb-true _ _ e))
+  outside_by false e x h = let k : ◌≡◌ {A = Result Unit Exit} (Err x) (Ok tt) = h in absurd (cc)
+
+  pub fetch_outside : (x : Exit) → Err x ≡ ended_when E.Fetch past → Err x ≡ effect_at s m
+  fetch_outside = outside_by past refl
+
+  inside_by : (t : Bool) → past ≡ t → Ok tt ≡ ended_when E.Fetch t → s.special.pc + 4 ≤ length m
+  inside_by true e h = let k : ◌≡◌ {A = Result Unit Exit} (Ok tt) (Err E.Fetch) = h in absurd (cc)
+  inside_by false e h = ltb-false _ _ e
+
+  pub fetch_inside : Ok tt ≡ ended_when E.Fetch past → s.special.pc + 4 ≤ length m
+  fetch_inside = inside_by past refl
 
   module _ (h : s.special.pc + 4 ≤ length m) (w : ℕ) (r : Option Instruction) (loaded : w ≡ load_of 4 m s.special.pc) (given : r ≡ read_of w) where
     fetch_read : read_effect r s (length m) ≡ effect_at s m
@@ -318,13 +338,8 @@ step_touches s m v b =
     (λ k n. inl refl)
 
 -- and that has a byte or more
-tried_wide : (d : Result Effect Exit) (s : State) (m : List ℕ) → Wide (tried_of d s m).touched
-tried_wide (Ok e) s m = touched_wide e
-tried_wide (Err x) s m = tt
-
 pub step_wide : (s : State) (m : List ℕ) → Wide (step_of s m).touched
-unfolding try_of
-step_wide s m = by_refusal (λ o. Wide o.touched) s m (λ _. tried_wide (effect_at s m) s m) (λ k n. tt)
+step_wide s m = wide (step_of s m).touched
 
 -- a step leaves all bytes but its access's
 pub step_outside : (s : State) (m : List ℕ) → Valid s → Bytes m → (i : ℕ) → Outside i (access_at s m) → get_or (step_of s m).machine.memory i 0 ≡ get_or m i 0

@@ -15,13 +15,15 @@ use Rattle.isa.specs.declared.kind.Access.TheVariants.{Lb, Lbu, Sb, Lh, Lhu, Sh,
 use Rattle.isa.specs.declared.kind.Kind.TheVariants as K
 use Rattle.isa.specs.declared.kind.Instruction.{Instruction}
 use Rattle.isa.specs.Reading.{read_of}
-use Rattle.class.specs.Class.{access_class, bytes_of, class_of}
+use Rattle.isa.specs.declared.width.Width.TheVariants.{Word}
+use Rattle.isa.specs.Width.{bytes_of}
+use Rattle.class.specs.Class.{access_class, class_of, width_in}
 use Rattle.effect.specs.declared.effect.Effect.{Effect}
 use Rattle.effect.specs.declared.exit.Exit.{Exit}
 use Rattle.effect.specs.declared.effect.Touched.{Touched}
 use Rattle.effect.specs.declared.effect.Touched.TheVariants.{Load, Store}
 use Rattle.effect.specs.Touched.{touched_of}
-use Rattle.effect.proofs.Touched.{Wide, width_some}
+use Rattle.effect.proofs.Touched.{width_some}
 use Rattle.access.specs.Access.{address_of, load_if, store_if, conditional, access_of}
 use Rattle.decision.specs.Decision.{decision_of}
 use Rattle.machine.specs.declared.state.State.{State}
@@ -29,7 +31,7 @@ use Rattle.machine.specs.State.{register_of, Bytes}
 use Rattle.machine.specs.Apply.{span, span_of, directed}
 use Rattle.machine.specs.Step.{effect_of, effect_at, instruction_access, access_at, tried_of, try_of, step_of}
 use Rattle.machine.proofs.Valid.{Valid}
-use Rattle.machine.proofs.Steps.{by_refusal, step_touches, step_wide}
+use Rattle.machine.proofs.Steps.{by_refusal, step_touches}
 
 -- ---- the effect of an access
 
@@ -44,11 +46,11 @@ module _ (s : State) (m : List ℕ) where
   store_touches true e z = refl
   store_touches false e z = let c : ⊥ = omega (arith, z) in absurd c
 
-  linked_touches : (ll : Bool) (rt a b : ℕ) → ll ≡ true → touched_of (conditional ll rt a b) ≡ Some (Store a 4)
+  linked_touches : (ll : Bool) (rt a b : ℕ) → ll ≡ true → touched_of (conditional ll rt a b) ≡ Some (Store a Word)
   unfolding conditional
   linked_touches ll rt a b h = rw h
 
-  access_touches : (k : Access) (rt a b v : ℕ) (ll : Bool) (n : ℕ) → (k ≡ Sc → ll ≡ true) → (tried_of (access_of k rt a b v ll n) s m).number ≡ 0 → (tried_of (access_of k rt a b v ll n) s m).touched ≡ Some (directed (access_class k).store (span (address_of a v) (bytes_of (access_class k).width)))
+  access_touches : (k : Access) (rt a b v : ℕ) (ll : Bool) (n : ℕ) → (k ≡ Sc → ll ≡ true) → (tried_of (access_of k rt a b v ll n) s m).number ≡ 0 → (tried_of (access_of k rt a b v ll n) s m).touched ≡ directed (access_class k).access (address_of a v)
   access_touches Lb rt a b v ll n h z = load_touches _ _ z
   access_touches Lbu rt a b v ll n h z = load_touches _ _ z
   access_touches Sb rt a b v ll n h z = store_touches _ _ z
@@ -69,6 +71,18 @@ module _ (s : State) (m : List ℕ) where
   exit_untouched (Ok e) n = absurd (n refl)
   exit_untouched (Err x) n = refl
 
+directed_whole : (k : Access) (a : ℕ) → span_of (directed (access_class k).access a) ≡ span a (bytes_of (width_in (access_class k).access))
+directed_whole Lb a = refl
+directed_whole Lbu a = refl
+directed_whole Sb a = refl
+directed_whole Lh a = refl
+directed_whole Lhu a = refl
+directed_whole Sh a = refl
+directed_whole Lw a = refl
+directed_whole Sw a = refl
+directed_whole Ll a = refl
+directed_whole Sc a = refl
+
 -- ---- the step
 
 module _ (s : State) (m : List ℕ) (i : Instruction) (fetched : s.special.pc + 4 ≤ length m) (reads : read_of (load_of 4 m s.special.pc) ≡ Some i) where
@@ -85,13 +99,20 @@ module _ (s : State) (m : List ℕ) (i : Instruction) (fetched : s.special.pc + 
     unfolding effect_of decision_of
     accessed = rw isAccess
 
-    -- a step that completes touches the whole access, in the direction of the instruction's class; but an SC needs the LL bit
-    pub touched_access : (k ≡ Sc → s.special.ll ≡ true) → (step_of s m).number ≡ 0 → (step_of s m).touched ≡ Some (directed (class_of i.kind).store (access_at s m))
+    -- a step that completes touches the access of the instruction's class; but an SC needs the LL bit
+    touched_class : (k ≡ Sc → s.special.ll ≡ true) → (step_of s m).number ≡ 0 → (step_of s m).touched ≡ directed (class_of i.kind).access (access_at s m).at
     unfolding try_of
-    touched_access h =
-        by_refusal (λ o. o.number ≡ 0 → o.touched ≡ Some (directed (class_of i.kind).store (access_at s m))) s m
+    touched_class h =
+        by_refusal (λ o. o.number ≡ 0 → o.touched ≡ directed (class_of i.kind).access (access_at s m).at) s m
         (λ _. rw (access_is, isAccess, effect_is, accessed) (access_touches s m k i.rt _ _ i.value s.special.ll (length m) h))
         (λ k n z. absurd (n z))
+
+    access_whole : span_of (directed (class_of i.kind).access (access_at s m).at) ≡ access_at s m
+    access_whole = rw (access_is, isAccess) (directed_whole k _)
+
+    -- and the whole of it
+    pub touched_access : (k ≡ Sc → s.special.ll ≡ true) → (step_of s m).number ≡ 0 → ((step_of s m).touched ≡ directed (class_of i.kind).access (access_at s m).at) × (span_of (step_of s m).touched ≡ access_at s m)
+    touched_access h z = (touched_class h z, ap span_of (touched_class h z) ∙ access_whole)
 
     -- an SC without the LL bit touches nothing
     pub touched_unstored : k ≡ Sc → s.special.ll ≡ false → (step_of s m).touched ≡ None
@@ -109,12 +130,12 @@ touched_exits s m =
     (λ _. exit_untouched s m (effect_at s m))
     (λ k n _. refl)
 
-narrow : (t : Option Touched) → Wide t → (span_of t).width ≡ 0 → t ≡ None
-narrow None w z = refl
-narrow (Some (Load a x)) w z = absurd (width_some x w z)
-narrow (Some (Store a x)) w z = absurd (width_some x w z)
+narrow : (t : Option Touched) → (span_of t).width ≡ 0 → t ≡ None
+narrow None z = refl
+narrow (Some (Load a w)) z = absurd (width_some w z)
+narrow (Some (Store a w)) z = absurd (width_some w z)
 
 -- and neither does a step without an access
 pub touched_nothing : (s : State) (m : List ℕ) → Valid s → Bytes m → (access_at s m).width ≡ 0 → (step_of s m).touched ≡ None
 touched_nothing s m v b z =
-    ⊎_elim (λ e. e) (λ e. narrow (step_of s m).touched (step_wide s m) (ap (λ x. x.width) e ∙ z)) (step_touches s m v b)
+    ⊎_elim (λ e. e) (λ e. narrow (step_of s m).touched (ap (λ x. x.width) e ∙ z)) (step_touches s m v b)

@@ -12,10 +12,14 @@ use Rattle.std.specs.Prelude.{Result, Ok, Err}
 use Rattle.std.specs.Result.{IfOk}
 use Rattle.word.specs.Number.{signed_of, extend_of}
 use Rattle.word.specs.Bytes.{load_of}
-use Rattle.word.proofs.Choice.{by_test, both}
+use Rattle.word.proofs.Choice.{both}
 use Rattle.word.proofs.Numbers.{wrap_below}
 use Rattle.word.proofs.Memory.{load_lt, set_every}
+use Rattle.isa.specs.declared.control.Control as C
+use Rattle.isa.specs.declared.control.Control.TheVariants.{BadAddress, Status, Cause, ReturnAddress}
 use Rattle.effect.specs.declared.effect.Special.{Special}
+use Rattle.effect.specs.declared.effect.Extension.{Extension}
+use Rattle.effect.specs.declared.effect.Extension.TheVariants.{Zero, Sign}
 use Rattle.effect.specs.declared.effect.Effect.{Effect}
 use Rattle.effect.specs.declared.effect.Effect.TheVariants.{Advance, Write, Pair, Jump, Link, LoadByte, LoadHalf, LoadWord, LoadLinked, StoreByte, StoreHalf, StoreWord, StoreLinked, Control, Return}
 use Rattle.effect.specs.declared.exit.Exit.{Exit}
@@ -145,23 +149,18 @@ module _ {c : Special} (g : Regular c) where
   return_regular : {s : ℕ} → s < 2 ^ 13 → Regular (linked_of (status_of c s) false)
   return_regular h = others_regular g.hi g.lo g.bad h g.cause g.epc
 
-  either : (t : Bool) {x y : Special} → Regular x → Regular y → Regular (cond t x y)
-  either t p q = by_test Regular t (λ _. p) (λ _. q)
-
-  control_regular : (r : ℕ) {v : ℕ} → Word v → Regular (controlled_of c r v)
-  unfolding controlled_of
-  control_regular r h =
-      either (eqb r 8) (others_regular g.hi g.lo h g.status g.cause g.epc)
-      (either (eqb r 12) (others_regular g.hi g.lo g.bad (omega arith) g.cause g.epc)
-      (either (eqb r 13) (others_regular g.hi g.lo g.bad g.status h g.epc)
-      (others_regular g.hi g.lo g.bad g.status g.cause h)))
+  control_regular : (r : C.Control) {v : ℕ} → Word v → Regular (controlled_of c r v)
+  control_regular BadAddress h = others_regular g.hi g.lo h g.status g.cause g.epc
+  control_regular Status h = others_regular g.hi g.lo g.bad (omega arith) g.cause g.epc
+  control_regular Cause h = others_regular g.hi g.lo g.bad g.status h g.epc
+  control_regular ReturnAddress h = others_regular g.hi g.lo g.bad g.status g.cause h
 
 -- ---- an effect carried out
 
-loaded_below : (k x : ℕ) (t : Bool) → Word x → Word (loaded_of k t x)
-unfolding loaded_of extend_of
-loaded_below k x true h = wrap_below 32 (signed_of k (x % 2 ^ k))
-loaded_below k x false h = h
+loaded_below : (k x : ℕ) (e : Extension) → Word x → Word (loaded_of k e x)
+unfolding extend_of
+loaded_below k x Zero h = h
+loaded_below k x Sign h = wrap_below 32 (signed_of k (x % 2 ^ k))
 
 -- the other registers need nothing of the 32 and of memory
 module _ (l : List ℕ) {c : Special} (m : List ℕ) (q : Regular c) where

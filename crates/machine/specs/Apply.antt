@@ -1,5 +1,8 @@
 -- An effect carried out on state and memory, and the bytes that it stores.
-use Rattle.std.specs.Prelude.{ℕ, ◌+◌, ◌≤◌, ◌<◌, Bool, true, false, List, Option, None, Some, ◌⊎◌}
+use Rattle.std.specs.Prelude.{ℕ, ◌+◌, ◌≤◌, ◌<◌, List, Option, None, Some, ◌⊎◌}
+use Rattle.isa.specs.Width.{bytes_in}
+use Rattle.class.specs.declared.Transfer.{Transfer}
+use Rattle.class.specs.declared.Transfer.TheVariants as T
 use Rattle.effect.specs.declared.effect.Effect.{Effect}
 use Rattle.effect.specs.declared.effect.Touched.{Touched}
 use Rattle.effect.specs.declared.effect.Touched.TheVariants.{Load, Store}
@@ -27,22 +30,23 @@ pub record Span : Type 0 where
 abbrev pub span : ℕ → ℕ → Span
 span a w = record { at = a; width = w }
 
--- a load or a store of these bytes
-abbrev pub directed : Bool → Span → Touched
-directed false x = Load x.at x.width
-directed true x = Store x.at x.width
+-- what an access touches at an address
+abbrev pub directed : Option Transfer → ℕ → Option Touched
+directed None a = None
+directed (Some (T.Load w)) a = Some (Load a w)
+directed (Some (T.Store w)) a = Some (Store a w)
 
 -- the bytes that an access touches
 abbrev pub span_of : Option Touched → Span
 span_of None = span 0 0
-span_of (Some (Load a w)) = span a w
-span_of (Some (Store a w)) = span a w
+span_of (Some (Load a w)) = span a (bytes_in w)
+span_of (Some (Store a w)) = span a (bytes_in w)
 
 -- those that it stores
 abbrev pub stored_in : Option Touched → Span
 stored_in None = span 0 0
 stored_in (Some (Load a w)) = span 0 0
-stored_in (Some (Store a w)) = span a w
+stored_in (Some (Store a w)) = span a (bytes_in w)
 
 -- byte i is none of them
 abbrev pub Outside : ℕ → Span → Type 0

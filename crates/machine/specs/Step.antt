@@ -3,7 +3,8 @@ use Rattle.std.specs.Prelude.{ℕ, ◌+◌, cond, List, eqb, leb, length, Option
 use Rattle.word.specs.Bytes.{load_of}
 use Rattle.isa.specs.declared.kind.Instruction.{Instruction}
 use Rattle.isa.specs.Reading.{read_of}
-use Rattle.class.specs.Class.{bytes_of, class_of}
+use Rattle.isa.specs.Width.{bytes_of}
+use Rattle.class.specs.Class.{width_accessed}
 use Rattle.effect.specs.declared.effect.Effect.{Effect}
 use Rattle.effect.specs.declared.effect.Touched.{Touched}
 use Rattle.effect.specs.Touched.{touched_of}
@@ -33,7 +34,7 @@ effect_at s m = cond (leb (s.special.pc + 4) (length m)) (read_effect (read_of (
 
 -- an instruction's access: the bytes at base plus offset that it loads or stores, none where it is no access
 abbrev pub instruction_access : Instruction → State → Span
-instruction_access i s = span (address_of (register_of s.registers i.rs) i.value) (bytes_of (class_of i.kind).width)
+instruction_access i s = span (address_of (register_of s.registers i.rs) i.value) (bytes_of (width_accessed i.kind))
 
 abbrev pub read_access : Option Instruction → State → Span
 read_access None s = span 0 0

@@ -21,9 +21,10 @@ impl State {
     fn resumed(self) -> State
         ensures { result ≡ Spec.resumed_of self }
     {
-        let mut s = self;
-        s.special = parts::linked(parts::advance(self.special), false);
-        s
+        State {
+            special: parts::linked(parts::advance(self.special), false),
+            ..self
+        }
     }
 
     // The state that goes on.
@@ -32,8 +33,7 @@ impl State {
         ensures { Spec.answer_of self result memory.now ≡ Spec.resume_of self memory.now }
     {
         self.refusal(memory.len())?;
-        let registers = self.registers;
-        match crate::step::effect_at(self.special, &registers, memory) {
+        match crate::step::effect_at(self.special, &self.registers, memory) {
             Err(exit) if is_served(exit) => Ok(self.resumed()),
             _ => Err(Refusal::NotServed),
         }

@@ -1,11 +1,12 @@
-// A run: steps repeated on a state that is taken apart once and joined again at the end.
-ghost use Rattle.std.specs.Prelude.{◌≡◌, length};
-ghost use Rattle.effect.specs.Exit.{exit_number};
-ghost use Rattle.machine.specs.State.{join_of, refusal_of};
+// A run: steps repeated, the refusals tried once. Its loop does by effect_at and apply what a step does: an exit is a part of a step's answer, and the
+// end of a run.
+ghost use Rattle.std.specs.Prelude.{◌≡◌};
 ghost use Rattle.machine.specs.Run as Spec;
 
 use crate::state::State;
-use effect::effect::{Special, Touched};
+use crate::step::effect_at;
+use apply::apply;
+use effect::effect::Touched;
 use effect::exit::Exit;
 use refusal::Refusal;
 
@@ -18,68 +19,37 @@ pub struct Ran {
     pub state: State,
 }
 
-// The same with the 32 registers left where they were lent.
-#[derive(Clone, Copy)]
-struct Course {
-    exit: Option<Exit>,
-    steps: u32,
-    touched: Option<Touched>,
-    special: Special,
-}
-
-// The loop stands apart, on lent registers: inside run_unrefused it takes 20 to 30 % more time.
-fn repeat(c: Special, registers: &mut [u32; 32], memory: &mut [u8], budget: u32) -> Course
-    requires { refusal_of (join_of registers.old c) (length memory.old) ≡ 0 }
-    ensures { Spec.course (exit_number result.exit) result.steps result.touched (join_of registers.new result.special) memory.new ≡ Spec.repeat_of budget (join_of registers.old c) memory.old }
-{
-    let mut special = c;
-    let mut touched = None;
-    for steps in 0..budget {
-        special = match crate::step::effect_at(special, registers, memory) {
-            Ok(e) => apply::apply(e, special, registers, memory, &mut touched),
-            Err(exit) => {
-                return Course {
-                    exit: Some(exit),
-                    steps,
-                    touched,
-                    special,
-                };
-            }
-        };
-    }
-    Course {
-        exit: None,
-        steps: budget,
-        touched,
-        special,
-    }
-}
-
 impl State {
-    // A run that nothing refuses.
-    #[tactic(auto, using(crate::proofs::Runs::run_repeats))]
-    pub fn run_unrefused(self, memory: &mut [u8], budget: u32) -> Ran
-        requires { refusal_of self (length memory.old) ≡ 0 }
-        ensures { Spec.done_of result memory.new ≡ Spec.run_of self memory.old budget }
-    {
-        let mut registers = self.registers;
-        let r = repeat(self.special, &mut registers, memory, budget);
-        Ran {
-            exit: r.exit,
-            steps: r.steps,
-            touched: r.touched,
-            state: State {
-                registers,
-                special: r.special,
-            },
-        }
-    }
-
     #[tactic(auto, using(crate::proofs::Runs::refused_as))]
     pub fn run(self, memory: &mut [u8], budget: u32) -> Result<Ran, Refusal>
         ensures { Spec.answer_of self result memory.new ≡ Spec.run_of self memory.old budget }
     {
         self.refusal(memory.len())?;
-        Ok(self.run_unrefused(memory, budget))
+        // Taken apart: with one `state` that apply changes in place, a run takes 1.25 to 1.34 times the time.
+        let State {
+            mut registers,
+            mut special,
+        } = self;
+        let mut touched = None;
+        // A loop that counts, as the steps completed before an exit are answered.
+        for steps in 0..budget {
+            special = match effect_at(special, &registers, memory) {
+                Ok(e) => apply(e, special, &mut registers, memory, &mut touched),
+                Err(exit) => {
+                    return Ok(Ran {
+                        exit: Some(exit),
+                        steps,
+                        touched,
+                        state: State { registers, special },
+                    });
+                }
+            };
+        }
+        Ok(Ran {
+            exit: None,
+            steps: budget,
+            touched,
+            state: State { registers, special },
+        })
     }
 }

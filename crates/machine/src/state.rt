@@ -4,7 +4,7 @@ ghost use Rattle.refusal.specs.Refusal.{refused_number};
 ghost use Rattle.machine.specs.State as Spec;
 
 use effect::effect::Special;
-use refusal::Refusal;
+use refusal::{Ending, Refusal};
 use word::bytes;
 
 // The 32 registers, and the others.
@@ -25,7 +25,7 @@ impl State {
             && self.special.status < 8192
     }
 
-    // The refusals that step, run and resume try first.
+    // The refusals that step, run and resume try first. No type of states that are not refused: each step would have to make its value anew.
     #[tactic(auto, using(crate::proofs::Steps::no_refusal, crate::proofs::Steps::not_lawful))]
     pub fn refusal(self, length: usize) -> Result<(), Refusal>
         ensures { refused_number result ≡ Spec.refusal_of self length }

@@ -1,7 +1,11 @@
 -- What an effect is carried out on: the 32 registers, the other registers and memory; and each change of them.
 use Rattle.std.specs.Prelude.{ℕ, ◌%◌, ◌^◌, Bool, cond, List, eqb, set}
+use Rattle.isa.specs.declared.control.Control.{Control}
+use Rattle.isa.specs.declared.control.Control.TheVariants.{BadAddress, Status, Cause, ReturnAddress}
 use Rattle.word.specs.Number.{extend_of}
 use Rattle.effect.specs.declared.effect.Special.{Special}
+use Rattle.effect.specs.declared.effect.Extension.{Extension}
+use Rattle.effect.specs.declared.effect.Extension.TheVariants.{Zero, Sign}
 use Rattle.branch.specs.Branch.{slot_of}
 
 -- what an effect is carried out on
@@ -48,11 +52,14 @@ cause_of c v = special c.hi c.lo c.pc c.next_pc c.ll c.bad c.status v c.epc
 abbrev pub epc_of : Special → ℕ → Special
 epc_of c v = special c.hi c.lo c.pc c.next_pc c.ll c.bad c.status c.cause v
 
--- ICR[r], of 8, 12, 13 and 14; the status keeps bits 0 to 12, writes to the rest are ignored (document 01, Machine)
-unfoldable pub controlled_of : Special → ℕ → ℕ → Special
-controlled_of c r v =
-    cond (eqb r 8) (bad_of c v) (cond (eqb r 12) (status_of c (v % 2 ^ 13)) (cond (eqb r 13) (cause_of c v) (epc_of c v)))
+-- a control register; the status keeps bits 0 to 12, writes to the rest are ignored (document 01, Machine)
+abbrev pub controlled_of : Special → Control → ℕ → Special
+controlled_of c BadAddress v = bad_of c v
+controlled_of c Status v = status_of c (v % 2 ^ 13)
+controlled_of c Cause v = cause_of c v
+controlled_of c ReturnAddress v = epc_of c v
 
 -- what a load brings: k bits x, sign-extended or zero-extended
-unfoldable pub loaded_of : ℕ → Bool → ℕ → ℕ
-loaded_of k signed x = cond signed (extend_of k x) x
+abbrev pub loaded_of : ℕ → Extension → ℕ → ℕ
+loaded_of k Zero x = x
+loaded_of k Sign x = extend_of k x

@@ -1,13 +1,15 @@
-// What an effect changes, one thing at a time: a register, the others by value, and memory.
+// What an effect changes, one thing at a time: a register, the others by value, and memory. Each function is handed what it changes and no more, so
+// that its head says so: a struct of the three would not.
 #![tactic(auto)]
 
 ghost use Rattle.std.specs.Prelude.{◌≡◌, false, ◌+◌, ◌^◌, ◌≤◌, ◌<◌, length};
 ghost use Rattle.word.specs.Bytes.{load_of, store_of};
 ghost use Rattle.parts.specs.Parts as Spec;
 
-use effect::effect::Special;
+use effect::effect::{Extension, Special};
 use isa::control::Control;
 
+// r is below 32 by a clause, as at `write`.
 #[tactic(auto, using(crate::proofs::Registers::put_other, crate::proofs::Registers::put_none))]
 fn put(registers: &mut [u32; 32], r: u32, v: u32)
     requires { r < 2 ^ 5 }
@@ -52,23 +54,22 @@ pub fn with_status(c: Special, status: u32) -> Special
     Special { status, ..c }
 }
 
-#[tactic(auto, unfolding(crate::specs::Parts::controlled_of))]
-pub fn controlled(c: Special, r: u32, v: u32) -> Special
+pub fn controlled(c: Special, r: Control, v: u32) -> Special
     ensures { result ≡ Spec.controlled_of c r v }
 {
-    match Control::try_from(r) {
-        Ok(Control::BadAddress) => Special { bad: v, ..c },
-        Ok(Control::Status) => Special {
+    match r {
+        Control::BadAddress => Special { bad: v, ..c },
+        Control::Status => Special {
             status: v % 8192,
             ..c
         },
-        Ok(Control::Cause) => Special { cause: v, ..c },
-        _ => Special { epc: v, ..c },
+        Control::Cause => Special { cause: v, ..c },
+        Control::ReturnAddress => Special { epc: v, ..c },
     }
 }
 
-// A register is written, and the program counters move on. That it is below 32 stays a clause here and below: an effect names its register by the number in
-// the instruction, of which a type of such numbers would have to be made anew at each effect.
+// A register is written, and the program counters move on. That it is below 32 stays a clause here and below: an effect names its register by the
+// number in the instruction, of which a type of such numbers would have to be made anew at each effect.
 pub fn write(registers: &mut [u32; 32], r: u32, v: u32, c: Special) -> Special
     requires { r < 2 ^ 5 }
     ensures { (registers.new ≡ Spec.put_of registers.old r v) × (result ≡ Spec.advance_of c) }
@@ -85,23 +86,23 @@ pub fn link(registers: &mut [u32; 32], r: u32, v: u32, target: u32, c: Special) 
     jump(c, target)
 }
 
-// What a load of N bytes brings, BITS bits, sign-extended or zero-extended.
-#[tactic(auto, unfolding(crate::specs::Parts::loaded_of))]
-pub fn loaded<const N: usize, const BITS: u32>(memory: &[u8], a: u32, signed: bool) -> u32
+// What a load of N bytes brings. BITS is 8 * N, which Rattle does not compute as a const argument; and no type of a const parameter holds the bounds
+// of the two.
+pub fn loaded<const N: usize, const BITS: u32>(memory: &[u8], a: u32, extension: Extension) -> u32
     requires within { a + N ≤ length memory.now }
     requires bytes { N ≤ 4 }
     requires some { 0 < BITS }
     requires bits { BITS ≤ 32 }
-    ensures { result ≡ Spec.loaded_of BITS signed (load_of N memory.now a) }
+    ensures { result ≡ Spec.loaded_of BITS extension (load_of N memory.now a) }
 {
     let x = word::bytes::load::<N>(memory, a as usize);
-    if signed {
-        word::number::extend::<BITS>(x)
-    } else {
-        x
+    match extension {
+        Extension::Zero => x,
+        Extension::Sign => word::number::extend::<BITS>(x),
     }
 }
 
+// N has a bound as at `loaded`.
 pub fn store<const N: usize>(memory: &mut [u8], a: u32, v: u32, c: Special) -> Special
     requires within { a + N ≤ length memory.old }
     requires bytes { N ≤ 4 }

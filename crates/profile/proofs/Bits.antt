@@ -1,8 +1,7 @@
 -- The words of the last bundle, told from their bits.
 use Prim.Native.Nat.{ℕ, ◌+◌, ◌*◌, ◌/◌, ◌%◌, ◌^◌, ◌<◌}
-use mathlib.Core.Path.{◌≡◌, refl, sym, ap, ◌∙◌}
+use mathlib.Core.Path.{◌≡◌, refl, ap, ◌∙◌}
 use mathlib.Core.Bool.{Bool, true, false, not, ◌&&◌}
-use mathlib.Core.List.{List}
 use native.Mathlib.Omega.{arith}
 use lib.Dec.{eqb}
 use borrow.Author.Tests.{eqb-true, eq-eqb}
@@ -23,7 +22,6 @@ use Rattle.layout.specs.declared.Layout.{Layout}
 use Rattle.layout.proofs.Sizes.{same_test}
 use Rattle.view.specs.View.{passes, is_region, seen, view_of, word_view}
 use Rattle.quick.proofs.Guards.{both_are, told_both}
-use Rattle.rules.specs.Rules.{word_at, view_at}
 use Rattle.profile.specs.Rules.{is_last_bundle, is_syscall_kind, syscalls0, is_syscall0, is_back}
 
 -- all fields but the opcode, as one number
@@ -73,18 +71,17 @@ module _ (w : ℕ) (h : w < 2 ^ 32) where
     back_both (Some y) = refl
     back_both None = refl
 
-    told : passes (is_back l i) (word_view w) ≡ eqb (w / 2 ^ 26) 2 && leads_back (w % 2 ^ 26)
+    -- a region takes the index out of a word by itself
+    same_region : leads_back (w % 2 ^ 26) ≡ leads_back w
+    unfolding region_of
+    same_region = let z : w % 2 ^ 26 % 2 ^ 26 ≡ w % 2 ^ 26 = omega arith in rw z
+
+    pub back_told : passes (is_back l i) (word_view w) ≡ eqb (w / 2 ^ 26) 2 && leads_back w
     unfolding word_view read_of fits decode_of
-    told =
+    back_told =
         rw (back_both (read_fields (cut_of w)), told_both is_jump (K.Branch J) tt (λ y. leads_back y.value) (cut_of w))
-        (shorter (eqb (w / 2 ^ 26) 2) ∙ ap (λ (v : ℕ). eqb (w / 2 ^ 26) 2 && leads_back v) lower_is)
+        (shorter (eqb (w / 2 ^ 26) 2) ∙ ap (λ (v : ℕ). eqb (w / 2 ^ 26) 2 && leads_back v) lower_is ∙ ap (λ (b : Bool). eqb (w / 2 ^ 26) 2 && b) same_region)
       where
         shorter : (b : Bool) → (b && true) && leads_back (lower (cut_of w)) ≡ b && leads_back (lower (cut_of w))
         shorter true = refl
         shorter false = refl
-
--- J to the last bundle's start at word i of an image
-pub back_told : (l : Layout) (img : List ℕ) (i w : ℕ) → w < 2 ^ 32 → w ≡ word_at img i
-    → passes (is_back l i) (view_at img i) ≡ eqb (w / 2 ^ 26) 2 && is_last_bundle l (region_of (l.code_base + 4 * i) (w % 2 ^ 26))
-unfolding view_at
-back_told l img i w h p = ap (λ (x : ℕ). passes (is_back l i) (word_view x)) (sym p) ∙ told w h l i

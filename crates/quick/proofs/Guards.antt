@@ -5,6 +5,7 @@ use mathlib.Core.Bool.{Bool, true, false, cond, not, ◌&&◌, ◌||◌, false�
 use native.Mathlib.Omega.{arith}
 use lib.Dec.{T, eqb, eqb→eq}
 use borrow.Author.Tests.{eq-eqb, eqb-true}
+use Rattle.std.proofs.Math.Bool.{and_comm}
 use Rattle.std.specs.Prelude.{Option, Some, None, is_some}
 use Rattle.word.specs.declared.field.Fields.{Fields}
 use Rattle.word.specs.Field.{cut_of, Fit}
@@ -18,7 +19,7 @@ use Rattle.isa.specs.declared.kind.Instruction.{Instruction}
 use Rattle.isa.specs.declared.format.Role.{Role}
 use Rattle.isa.specs.declared.format.Role.TheVariants.{Operand, Control, Fixed, Code, Part}
 use Rattle.isa.specs.Table.{row_of, instructions}
-use Rattle.class.specs.Class.{class_of}
+use Rattle.class.specs.Class.{class_of, width_accessed}
 use Rattle.isa.specs.Reading.{accepts, fits, decode_of, drawing_for, fits_kind, read_fields, read_of}
 use Rattle.isa.proofs.Codes.{key_of, every, every_kind, both}
 use Rattle.isa.proofs.Same.{is, same_kind, same_test}
@@ -73,7 +74,7 @@ module _ (f : Fields ℕ) where
 -- ---- accesses and jumps
 
 abbrev accesses : Kind → Bool
-accesses k = is_some (class_of k).width
+accesses k = is_some (width_accessed k)
 
 abbrev by_register : Kind → Bool
 by_register k = is_register (class_of k).flow
@@ -175,21 +176,31 @@ either_passes : (t u : View → Bool) (o : Option View) → passes (λ v. t v ||
 either_passes t u (Some v) = refl
 either_passes t u None = refl
 
+-- ---- a test of two, by the first where it holds, and else by the second
+
+pub by_first : {a c x : Bool} (b : Bool) → a ≡ c → c || b ≡ x → a ≡ true → a ≡ x
+by_first b p e h = let q = sym p ∙ h in h ∙ (rw q at e)
+
+pub by_second : {a c b d x : Bool} → a ≡ c → b ≡ d → c || d ≡ x → a ≡ false → b ≡ x
+by_second p q e h = let z = sym p ∙ h in q ∙ (rw z at e)
+
 module _ (w : ℕ) {f : Fields ℕ} (e : f ≡ cut_of w) (fit : Fit f) where
-  pub register_jump : eqb f.op 0 && (eqb f.rt 0 && (eqb f.rd 0 && (eqb f.shift 0 && eqb f.funct 8))) || eqb f.op 0 && (eqb f.rt 0 && (eqb f.shift 0 && eqb f.funct 9))
+  -- the fields of a JR but for rs, and those of a JALR but for rs and rd
+  pub register_jump : eqb f.op 0 && (eqb f.rs f.rs && (eqb f.rt 0 && (eqb f.rd 0 && (eqb f.shift 0 && eqb f.funct 8))))
+      || eqb f.op 0 && (eqb f.rs f.rs && (eqb f.rt 0 && (eqb f.rd f.rd && (eqb f.shift 0 && eqb f.funct 9))))
       ≡ passes V.by_register (word_view w)
   unfolding word_view read_of fits
-  register_jump = rw (← e, register_view (read_fields f), told_register f fit)
+  register_jump = rw (eq-eqb f.rs f.rs refl, eq-eqb f.rd f.rd refl, ← e, register_view (read_fields f), told_register f fit)
 
-  pub needs_guard_law : (set : ℕ) {a b : Bool} → a ≡ is_in set f.op → b ≡ passes V.by_register (word_view w)
+  pub needs_guard_law : (set : ℕ)
       → T (leads set Tables.opcode (λ k. accesses k && settles_all (opcode any) (drawing_for k))) → T (every (holds_access set) instructions)
-      → a || b ≡ passes needs_guard (word_view w)
+      → is_in set f.op || passes V.by_register (word_view w) ≡ passes needs_guard (word_view w)
   unfolding word_view read_of
-  needs_guard_law set p q h inside = rw (p, q, ← e, either_passes (λ v. is_some v.width) V.by_register, access_view (read_fields f), told_access f fit set h inside)
+  needs_guard_law set h inside = rw (← e, either_passes (λ v. is_some v.width) V.by_register, access_view (read_fields f), told_access f fit set h inside)
 
-  pub jumps : {b : Bool} → b ≡ passes V.by_register (word_view w) → (eqb f.op 2 || eqb f.op 3) || b ≡ passes is_jump (word_view w)
+  pub jumps : (eqb f.op 2 || eqb f.op 3) || passes V.by_register (word_view w) ≡ passes is_jump (word_view w)
   unfolding word_view read_of
-  jumps q = rw (q, ← e, either_passes (λ v. is_region v.flow) V.by_register, region_view (read_fields f), told_region f fit)
+  jumps = rw (← e, either_passes (λ v. is_region v.flow) V.by_register, region_view (read_fields f), told_region f fit)
 
 -- ---- words of a guard
 
@@ -237,11 +248,19 @@ module _ (w : ℕ) {f : Fields ℕ} (e : f ≡ cut_of w) where
   merge_both base r (Some i) = refl
   merge_both base r None = refl
 
+  -- in the order of the fields, of which rd is the first that is asked
+  in_order : (o s t d x : Bool) → o && (s && (t && (d && x))) ≡ (o && x) && (d && (s && t))
+  in_order false s t d x = refl
+  in_order true true true d x = and_comm d x ∙ (rw (and_comm d true))
+  in_order true true false d x = rw (and_comm d false, and_comm x false)
+  in_order true false t d x = rw (and_comm d false, and_comm x false)
+
   pub merge_told : (base r : ℕ)
-      → (eqb f.op 0 && (eqb f.shift 0 && eqb f.funct 37)) && (eqb f.rd r && (eqb f.rs r && eqb f.rt base)) ≡ is_merge_of base r w
+      → eqb f.op 0 && (eqb f.rs r && (eqb f.rt base && (eqb f.rd r && (eqb f.shift 0 && eqb f.funct 37)))) ≡ is_merge_of base r w
   unfolding is_merge_of read_of fits decode_of
   merge_told base r =
       rw (← e, merge_both base r (read_fields f), told_both is_merge (K.Alu Or) tt (λ i. eqb i.rd r && (eqb i.rs r && eqb i.rt base)) f)
+      (in_order (eqb f.op 0) (eqb f.rs r) (eqb f.rt base) (eqb f.rd r) (eqb f.shift 0 && eqb f.funct 37))
 
 -- the mask is the word's lower half
 pub mask_value : (w r : ℕ) → is_mask_of r w ≡ true → mask_in w ≡ w % 2 ^ 16

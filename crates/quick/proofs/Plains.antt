@@ -19,7 +19,7 @@ use Rattle.class.specs.declared.Destination.TheVariants.{Nowhere, FieldRt, Field
 use Rattle.isa.specs.declared.format.Role.{Role}
 use Rattle.isa.specs.declared.format.Role.TheVariants.{Operand, Control, Fixed, Code, Part}
 use Rattle.isa.specs.Table.{row_of}
-use Rattle.class.specs.Class.{class_of, named, register_written}
+use Rattle.class.specs.Class.{class_of, width_accessed, named, register_written}
 use Rattle.isa.specs.Reading.{operand, decode_of, drawing_for, read_of}
 use Rattle.isa.proofs.Codes.{both}
 use Rattle.isa.proofs.Roles.{is_true}
@@ -88,7 +88,7 @@ plain_kind b k =
     told b (class_of k).destination
     && (not (is_barred k 15)
     && (not (class_of k).link
-    && (not (is_some (class_of k).width)
+    && (not (is_some (width_accessed k))
     && not (is_relative (class_of k).flow || (is_region (class_of k).flow || is_register (class_of k).flow)))))
 
 module _ (b : Bool) (k : Kind) (f : Fields ℕ) where
@@ -109,11 +109,11 @@ module _ (b : Bool) (k : Kind) (f : Fields ℕ) where
       let c = both (told b (class_of k).destination) _ t in
       let d = both (not (is_barred k 15)) _ c.1 in
       let e = both (not (class_of k).link) _ d.1 in
-      let g = both (not (is_some (class_of k).width)) _ e.1 in
+      let g = both (not (is_some (width_accessed k))) _ e.1 in
       and_true (ap not (barred_never k decoded.value (not-true (is_barred k 15) (is_true (not (is_barred k 15)) d.0))))
       (and_true (ap not (written_spared b (class_of k).destination decoded c.0 (decoded_spared h)))
       (and_true (is_true (not (class_of k).link) e.0)
-      (and_true (is_true (not (is_some (class_of k).width)) g.0) (is_true _ g.1))))
+      (and_true (is_true (not (is_some (width_accessed k))) g.0) (is_true _ g.1))))
 
   plain_fits : (p : Pattern) → T (plain_kind b k) → T (settles_all p (drawing_for k)) → Holds p (row_of k).code f → is_base (field_of b f) ≡ false → Plain f
   plain_fits p t s h e = rw (read_fits f k (pattern_fits p (drawing_for k) (row_of k).code f s h)) (plain_seen t e)

@@ -3,7 +3,7 @@ ghost use Rattle.std.specs.Prelude.{◌≡◌, true};
 ghost use Rattle.word.specs.Field.{Fit};
 ghost use Rattle.quick.specs.Plain.{Plain, PlainWord};
 
-use crate::set;
+use crate::{code, set};
 use view::is_base;
 use word::field::Fields;
 
@@ -22,23 +22,21 @@ const FULL: u64 = 0x005f000000001000;
 // By the opcode: ADDI to XORI.
 const CONSTANTS: u64 = 0x0000000000007f00;
 
-const LUI: u32 = 15;
-
+// `&` and `|`, which do not branch: with `&&` and `||`, and `matches!` for the sets, a check of 65,536 bytes took 1.14 times the time.
 fn is_plain_special(f: Fields<u32>) -> bool
     requires { Fit f × (f.op ≡ 0) }
     ensures { result ≡ true → Plain f }
 {
-    let code = f.funct;
     let spared = !is_base(f.rd);
-    let three = set::has(THREE_REGISTERS, code) & (f.shift == 0);
-    let shifts = set::has(SHIFTS, code) & (f.rs == 0);
+    let three = set::has(THREE_REGISTERS, f.funct) & (f.shift == 0);
+    let shifts = set::has(SHIFTS, f.funct) & (f.rs == 0);
     // most words are one of these
     if three | shifts {
         return spared;
     }
-    let moves = set::has(MOVES, code) & ((f.rs == 0) & ((f.rt == 0) & (f.shift == 0)));
-    let multiply = set::has(MULTIPLY, code) & ((f.rd == 0) & (f.shift == 0));
-    let full = set::has(FULL, code);
+    let moves = set::has(MOVES, f.funct) & ((f.rs == 0) & ((f.rt == 0) & (f.shift == 0)));
+    let multiply = set::has(MULTIPLY, f.funct) & ((f.rd == 0) & (f.shift == 0));
+    let full = set::has(FULL, f.funct);
     (moves | (multiply | full)) & spared
 }
 
@@ -47,10 +45,10 @@ pub fn is_plain(w: u32) -> bool
     ensures { result ≡ true → PlainWord w }
 {
     let f = Fields::from(w);
-    if f.op == 0 {
+    if f.op == code::SPECIAL {
         return is_plain_special(f);
     }
     let constant = set::has(CONSTANTS, f.op);
-    let upper = (f.op == LUI) & (f.rs == 0);
+    let upper = (f.op == code::LUI) & (f.rs == 0);
     (constant | upper) & !is_base(f.rt)
 }

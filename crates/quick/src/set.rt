@@ -1,5 +1,5 @@
 // Sets of numbers below 64, a bit for each: one shift tells whether a number is in one, and one computed test goes over all that are.
-// No `matches!(code, 4 | 6 | 7 | ..)`: it is proved as well, but cc100_check is some 14 % slower with it on a large module.
+// No `matches!(code, 4 | 6 | 7 | ..)`: with it, and `&&` for `&` in plain, a check of 65,536 bytes took 1.14 times the time.
 ghost use Rattle.std.specs.Prelude.{◌≡◌, ◌<◌};
 ghost use Rattle.quick.specs.Set.{is_in};
 

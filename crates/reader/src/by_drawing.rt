@@ -34,7 +34,8 @@ fn operand(role: Role, x: u32) -> u32
     }
 }
 
-// The value so far, to which a field of BITS bits is appended if it is a part of it.
+// The value so far, to which a field of BITS bits is appended if it is a part of it. BITS is bounded by a clause, as no type of a const parameter holds
+// bounds.
 #[inline(always)]
 fn append<const BITS: u32>(role: Role, v: u32, x: u32) -> u32
     requires width { BITS < 32 }
@@ -48,6 +49,7 @@ fn append<const BITS: u32>(role: Role, v: u32, x: u32) -> u32
     }
 }
 
+// A line for each field, here and in `decode`: a map over Fields would want a type for the pairs of roles and fields, and what is kept of each differs.
 #[inline(always)]
 #[tactic(auto, unfolding(isa::specs::Reading::fits))]
 fn fits(d: Drawing, code: u32, f: Fields<u32>) -> bool

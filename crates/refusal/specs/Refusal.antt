@@ -34,6 +34,9 @@ abbrev pub refused_number : {A : Type 0} → Result A Refusal → ℕ
 refused_number (Ok x) = 0
 refused_number (Err r) = number_of r
 
+abbrev pub ended_when : {E : Type 0} → E → Bool → Result Unit E
+ended_when e true = Err e
+ended_when e false = Ok tt
+
 abbrev pub refused_when : Refusal → Bool → Result Unit Refusal
-refused_when r true = Err r
-refused_when r false = Ok tt
+refused_when r b = ended_when r b

@@ -26,17 +26,19 @@ pub enum Refusal {
     LastBundle = 21,
 }
 
-impl Refusal {
+// What a rule that is broken, or a test that holds, ends in: a refusal, or an exit of the machine.
+pub trait Ending: Sized + Drop {
     ghost use Rattle.std.specs.Prelude.{◌≡◌};
-    ghost use Rattle.refusal.specs.Refusal.{refused_when};
+    ghost use Rattle.refusal.specs.Refusal.{ended_when};
 
-    // Refused by this one, where its rule is broken.
-    pub fn when(self, broken: bool) -> Result<(), Refusal>
-        ensures { result ≡ refused_when self broken }
+    fn when(self, broken: bool) -> Result<(), Self>
+        ensures { result ≡ ended_when self broken }
     {
         if broken { Err(self) } else { Ok(()) }
     }
 }
+
+impl Ending for Refusal {}
 
 impl From<Refusal> for u32 {
     ghost use Rattle.refusal.specs.Refusal.{IsNumberOf};

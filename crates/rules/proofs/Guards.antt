@@ -5,9 +5,9 @@ use mathlib.Core.Bool.{true, false, ◌&&◌}
 use mathlib.Core.List.{[], ◌∷◌, map}
 use native.Mathlib.Omega.{arith}
 use lib.Dec.{eqb, leb}
-use Rattle.class.specs.declared.Width.{Width}
-use Rattle.class.specs.declared.Width.TheVariants.{Byte, Half, Word}
-use Rattle.class.specs.Class.{bytes_in}
+use Rattle.isa.specs.declared.width.Width.{Width}
+use Rattle.isa.specs.declared.width.Width.TheVariants.{Byte, Half, Word}
+use Rattle.isa.specs.Width.{bytes_in}
 use Rattle.word.proofs.Choice.{both}
 use Rattle.word.proofs.Numbers.{signed_low, signed_high}
 use Rattle.view.specs.Guard.{is_mask_of, mask_in}

@@ -1,7 +1,7 @@
 -- The rules of words as tests, 10 to 15 (document 01, Module and its guards; Refusal table); 8 is that there is no view, 9 is `barred` of the view. img is the image, i a word's index.
 use Rattle.std.specs.Prelude.{ℕ, ◌+◌, ◌-◌, ◌*◌, ◌/◌, ◌%◌, ◌≤◌, Bool, false, cond, not, ◌&&◌, ◌||◌, ◌≡◌, List, Option, Some, None, is_some, eqb, leb, ltb, ℤ, pos, negsuc, length}
 use Rattle.word.specs.Bytes.{load_of, longest}
-use Rattle.class.specs.Class.{bytes_of}
+use Rattle.isa.specs.Width.{bytes_of}
 use Rattle.branch.specs.Branch.{relative_of, region_of}
 use Rattle.layout.specs.declared.Layout.{Layout}
 use Rattle.view.specs.declared.View.{View}

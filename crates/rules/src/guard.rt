@@ -1,23 +1,21 @@
 // Guards: the two words before an access, JR or JALR.
 ghost use Rattle.std.specs.Prelude.{◌≡◌};
-ghost use Rattle.class.specs.Class.{bytes_in};
+ghost use Rattle.isa.specs.Width.{bytes_in};
 ghost use Rattle.rules.specs.Offset.{offset_of};
 ghost use Rattle.rules.specs.Rules as Spec;
 
 use crate::image::Word;
-use class::{Flow, Width};
-use view::View;
+use class::Flow;
+use isa::register;
+use isa::width::Width;
+use view::{View, is_base};
 
 // a and b are the two words before the one that needs a guard, r is its base.
 #[tactic(auto, unfolding(crate::specs::Rules::is_guarded))]
 fn is_guarded(a: u32, b: u32, base: u32, r: u32) -> bool
     ensures { result ≡ Spec.is_guarded a b base r }
 {
-    quick::guard::is_mask(a, r)
-        && quick::guard::is_merge(b, base, r)
-        && r != 0
-        && r != 26
-        && r != 27
+    quick::guard::is_mask(a, r) && quick::guard::is_merge(b, base, r) && r != 0 && !is_base(r)
 }
 
 // The mask of the guard before word w, where there is one in its bundle.
@@ -60,10 +58,8 @@ pub fn breaks12(data_size: u32, w: Word, v: View) -> bool
     let Some(width) = v.width else {
         return false;
     };
-    match mask_before(w, 26, v.rs) {
-        Some(mask) => !fits_data(data_size, mask, v.value, width),
-        None => true,
-    }
+    let guard = mask_before(w, register::DATA_BASE, v.rs);
+    guard.is_none_or(|mask| !fits_data(data_size, mask, v.value, width))
 }
 
 #[tactic(auto, unfolding(crate::specs::Rules::broken13, crate::specs::Rules::guard_mask))]
@@ -73,8 +69,6 @@ pub fn breaks13(code_size: u32, w: Word, v: View) -> bool
     if v.flow != Flow::Register {
         return false;
     }
-    match mask_before(w, 27, v.rs) {
-        Some(mask) => !fits_code(code_size, mask),
-        None => true,
-    }
+    let guard = mask_before(w, register::CODE_BASE, v.rs);
+    guard.is_none_or(|mask| !fits_code(code_size, mask))
 }

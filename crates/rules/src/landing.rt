@@ -8,7 +8,7 @@ use class::Flow;
 use quick::guard::needs_guard;
 use view::View;
 
-// A branch may come to word i: neither it nor the next needs a guard.
+// A branch may come to word i: neither it nor the next needs a guard. An image and an index: it looks one word on, which Word does not reach.
 #[tactic(auto, unfolding(crate::specs::Rules::is_entry, crate::specs::Rules::view_at))]
 fn is_entry(image: &[u8], i: usize) -> bool
     requires { 4 * i + 8 ≤ length image.now }
@@ -48,5 +48,6 @@ pub fn target(v: View, pc: u32) -> u32
 pub fn breaks15(site: Site, v: View) -> bool
     ensures { result ≡ Spec.broken15 site.entry.whole.layout site.entry.whole.image.now site.entry.index v }
 {
-    matches!(v.flow, Flow::Relative | Flow::Region) && !lands(site.whole, target(v, site.pc()))
+    matches!(v.flow, Flow::Relative | Flow::Region)
+        && !lands(site.whole, target(v, site.place().pc()))
 }

@@ -3,6 +3,7 @@ ghost use Rattle.std.specs.Prelude.{◌≡◌};
 ghost use Rattle.rules.specs.Rules as Spec;
 
 use class::Flow;
+use isa::register;
 use view::{View, is_base};
 
 #[tactic(auto, unfolding(crate::specs::Rules::broken10))]
@@ -19,7 +20,7 @@ pub fn breaks11(v: View) -> bool
     v.link
         && match v.flow {
             Flow::Register => v.rd == v.rs,
-            Flow::Relative => v.rs == 31,
+            Flow::Relative => v.rs == register::LINK,
             Flow::Onward | Flow::Region => false,
         }
 }

@@ -1,4 +1,4 @@
-// Words as signed integers: comparison, checked sums, products, quotients and shifts.
+// Words as signed integers: comparison, checked sums, products, quotients and shifts; a function for each operation, as the definitions have them.
 #![tactic(auto, using(crate::proofs::Words::casts))]
 
 ghost use Rattle.std.specs.Prelude.{◌≡◌, ◌^◌, ◌<◌, ◌+ℤ◌, ◌-ℤ◌, ◌*ℤ◌, int_div, int_lt, int_rem};

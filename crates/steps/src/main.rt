@@ -4,26 +4,34 @@
 // in that order, and each byte of memory that changed, by its address.
 #![tactic(auto)]
 
-ghost use Rattle.std.specs.Prelude.{◌≤◌};
+ghost use Rattle.std.specs.Prelude.{◌≤◌, IfOk, IfSome};
 
 use std::io;
 use std::io::{Read, Write};
 use word::bytes::load;
 
-// Where the memory's length, the number of steps and the memory stand in a case.
-const LENGTH: usize = 164;
+// The bytes of a case, and where the memory's length, the number of steps and the memory stand in it, behind the state.
+const CASE: usize = 256;
 
-const COUNT: usize = 168;
+const LENGTH: usize = codec::LENGTH;
 
-const MEMORY: usize = 172;
+const COUNT: usize = LENGTH + 4;
+
+const MEMORY: usize = COUNT + 4;
+
 // The longest memory of a case.
-const SPACE: usize = 84;
+const SPACE: usize = CASE - MEMORY;
+
 // More cases are not read.
 const CASES: u32 = 1000000;
 
-fn print_state(out: &mut impl Write, case: &[u8; 256], state: &[u8; 164]) -> io::Result<()> {
+// A function that writes and no Display, here and below: what is written are parts of a line, as many as differ, out of two buffers.
+fn print_state(
+    out: &mut impl Write,
+    case: &[u8; CASE],
+    state: &[u8; codec::LENGTH],
+) -> io::Result<()> {
     let words = case[..LENGTH].chunks_exact(4).zip(state.chunks_exact(4));
-    // A loop, since the first write that fails ends it.
     for (i, (old, new)) in words.enumerate() {
         if old != new {
             write!(out, " {i}={:08x}", load::<4>(new, 0))?;
@@ -33,7 +41,6 @@ fn print_state(out: &mut impl Write, case: &[u8; 256], state: &[u8; 164]) -> io:
 }
 
 fn print_memory(out: &mut impl Write, before: &[u8], after: &[u8]) -> io::Result<()> {
-    // A loop, as above.
     for (i, (old, new)) in before.iter().zip(after).enumerate() {
         if old != new {
             write!(out, " m{i}={new:02x}")?;
@@ -42,22 +49,21 @@ fn print_memory(out: &mut impl Write, before: &[u8], after: &[u8]) -> io::Result
     Ok(())
 }
 
-// The number of the last step.
+// The number of the last step, as cc100_step answers it to C: an exit ends them.
 fn steps(state: &mut [u8], memory: &mut [u8], count: u32) -> u32 {
-    // A loop, since each step goes on from the state that the one before it left, and an exit ends it.
-    for _ in 0..count {
-        let number = cc100_step::cc100_step(state, memory).number;
-        if number != 0 {
-            return number;
-        }
-    }
-    0
+    (0..count)
+        .map(|_| cc100_step::cc100_step(state, memory).number)
+        .find(|number| *number != 0)
+        .unwrap_or(0)
 }
 
-fn run_case(out: &mut impl Write, case: &[u8; 256], length: usize) -> io::Result<()>
+// length is at most SPACE, which the clause says by its number. Beside the case, not in a type with it: the buffer is filled anew for each case, and
+// its length is told when it is full.
+fn run_case(out: &mut impl Write, case: &[u8; CASE], length: usize) -> io::Result<()>
     requires { length ≤ 84 }
 {
-    let mut state = [0u8; 164];
+    // Of fixed size, as nothing is allocated.
+    let mut state = [0u8; codec::LENGTH];
     let mut space = [0u8; SPACE];
     state.copy_from_slice(&case[..LENGTH]);
     space.copy_from_slice(&case[MEMORY..]);
@@ -68,32 +74,28 @@ fn run_case(out: &mut impl Write, case: &[u8; 256], length: usize) -> io::Result
     writeln!(out)
 }
 
-// Answers whether there was a case.
-fn next_case(
-    input: &mut impl Read,
-    out: &mut impl Write,
-    case: &mut [u8; 256],
-) -> io::Result<bool> {
-    if input::read_full(input, case)? < 256 {
-        return Ok(false);
+// The length of the next case's memory, if there is a case.
+fn read_case(input: &mut impl Read, case: &mut [u8; CASE]) -> io::Result<Option<usize>>
+    ensures { IfOk result (λ answer. IfSome answer (λ length. length ≤ 84)) }
+{
+    if input::read_part(input, case)?.len() < CASE {
+        return Ok(None);
     }
     let length = load::<4>(case, LENGTH) as usize;
-    if length > SPACE {
-        return Ok(false);
-    }
-    run_case(out, case, length)?;
-    Ok(true)
+    Ok((length <= SPACE).then_some(length))
 }
 
 fn main(rt: HostRuntime) -> io::Result<()> {
     let mut input = rt.stdin();
     let mut out = rt.stdout();
-    let mut case = [0u8; 256];
-    // A loop, since nobody knows how many cases are to come before the input ends.
+    // Of fixed size, as nothing is allocated.
+    let mut case = [0u8; CASE];
+    // A `for` of so many turns, as a loop has to be known to end.
     for _ in 0..CASES {
-        if !next_case(&mut input, &mut out, &mut case)? {
+        let Some(length) = read_case(&mut input, &mut case)? else {
             return Ok(());
-        }
+        };
+        run_case(&mut out, &case, length)?;
     }
     Ok(())
 }

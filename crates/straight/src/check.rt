@@ -4,13 +4,12 @@ ghost use Rattle.checker.specs.Said.{verdict_of};
 ghost use Rattle.straight.specs.Check as Spec;
 
 use crate::words::StraightThrough;
-use checker::check::check_image;
+use checker::check::Candidate;
 use checker::verdict::Refused;
-use layout::Layout;
 
 #[tactic(auto, using(crate::proofs::Scan::straight_image))]
-pub fn check_straight(layout: Layout, memory_length: u64, image: &[u8]) -> Result<(), Refused>
-    ensures { verdict_of result ≡ Spec.straight_of layout memory_length image.now }
+pub fn check_straight(candidate: Candidate) -> Result<(), Refused>
+    ensures { verdict_of result ≡ Spec.straight_of candidate.entry.layout candidate.entry.memory_length candidate.entry.image.now }
 {
-    check_image::<StraightThrough>(layout, memory_length, image)
+    candidate.check_by::<StraightThrough>()
 }

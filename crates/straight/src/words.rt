@@ -1,6 +1,6 @@
 // The profile's rules: 20 of each branch or jump, and 21 of the last bundle.
 use checker::words::Profile;
-use refusal::Refusal;
+use refusal::{Ending, Refusal};
 use rules::site::{Module, Site};
 use view::View;
 
@@ -14,7 +14,7 @@ impl Profile for StraightThrough {
     ghost of_whole = { Spec.of_whole };
 
     fn check_branch(site: Site, v: View) -> Result<(), Refusal> {
-        Refusal::NotForward.when(profile::breaks20(site, v))
+        Refusal::NotForward.when(profile::breaks20(site.place(), v))
     }
 
     fn check_whole(whole: Module) -> Result<(), Refusal> {

@@ -1,13 +1,14 @@
 // Exceptions, privileged instructions and SYNC. b is GPR[rt].
 #![tactic(auto)]
 
-ghost use Rattle.std.specs.Prelude.{◌≡◌, cond, Ok, Err};
+ghost use Rattle.std.specs.Prelude.{◌≡◌};
 ghost use Rattle.system.specs.System as Spec;
 
 use effect::effect::{Effect, Special};
 use effect::exit::Exit;
 use isa::control::Control;
 use isa::kind::System;
+use refusal::Ending;
 
 // The code of BREAK and SYSCALL that raises no exception.
 const RESERVED: u32 = 15;
@@ -25,15 +26,23 @@ fn restored(status: u32) -> u32
     ((status >> 1) & 0b11) + (((status >> 4) & 0b11) << 3) + (((status >> 7) & 0b11_1111) << 6)
 }
 
-#[tactic(auto, unfolding(crate::specs::System::control_of))]
-fn control(s: Special, d: u32) -> u32
-    ensures { result ≡ Spec.control_of s d }
+// Field rd of MFC0 and MTC0. Every other number, which no word that reads as one of them has, stands for the return address.
+#[tactic(auto, unfolding(crate::specs::System::control_named))]
+pub fn control_named(rd: u32) -> Control
+    ensures { result ≡ Spec.control_named rd }
 {
-    match Control::try_from(d) {
-        Ok(Control::BadAddress) => s.bad,
-        Ok(Control::Status) => s.status,
-        Ok(Control::Cause) => s.cause,
-        _ => s.epc,
+    Control::try_from(rd).unwrap_or(Control::ReturnAddress)
+}
+
+#[tactic(auto, unfolding(crate::specs::System::control_of))]
+fn control(s: Special, c: Control) -> u32
+    ensures { result ≡ Spec.control_of s c }
+{
+    match c {
+        Control::BadAddress => s.bad,
+        Control::Status => s.status,
+        Control::Cause => s.cause,
+        Control::ReturnAddress => s.epc,
     }
 }
 
@@ -59,13 +68,6 @@ fn breakpoint(code: u32) -> Exit
     }
 }
 
-// Passes in kernel mode alone.
-fn privileged(status: u32, exit: Exit) -> Result<(), Exit>
-    ensures { result ≡ cond (Spec.is_user status) (Err exit) (Ok tt) }
-{
-    if is_user(status) { Err(exit) } else { Ok(()) }
-}
-
 #[tactic(auto, unfolding(crate::specs::System::privileged))]
 pub fn system(k: System, rt: u32, rd: u32, b: u32, v: u32, s: Special) -> Result<Effect, Exit>
     ensures { result ≡ Spec.system_of k rt rd b v s }
@@ -75,16 +77,16 @@ pub fn system(k: System, rt: u32, rd: u32, b: u32, v: u32, s: Special) -> Result
         System::Syscall => Err(system_call(v, status)),
         System::Break => Err(breakpoint(v)),
         System::Rfe => {
-            privileged(status, Exit::PrivilegedInstruction)?;
+            Exit::PrivilegedInstruction.when(is_user(status))?;
             Ok(Effect::Return(restored(status)))
         }
         System::Mfc0 => {
-            privileged(status, Exit::PrivilegedData)?;
-            Ok(Effect::Write(rt, control(s, rd)))
+            Exit::PrivilegedData.when(is_user(status))?;
+            Ok(Effect::Write(rt, control(s, control_named(rd))))
         }
         System::Mtc0 => {
-            privileged(status, Exit::PrivilegedData)?;
-            Ok(Effect::Control(rd, b))
+            Exit::PrivilegedData.when(is_user(status))?;
+            Ok(Effect::Control(control_named(rd), b))
         }
         System::Sync => Ok(Effect::Advance),
     }

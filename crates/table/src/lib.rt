@@ -64,6 +64,7 @@ fn entry_in(low: [Entry; 32], high: [Entry; 32], n: u32) -> Entry
     entry_at(low, n, beyond)
 }
 
+// A function for each table, which ties it to the definition of its name; what the four share is `entry_at` and `entry_in`, which know an array alone.
 #[tactic(auto, unfolding(crate::specs::Tables::opcodes))]
 fn by_opcode(n: u32) -> Entry
     ensures { result ≡ get_or opcodes n Empty }

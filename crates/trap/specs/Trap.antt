@@ -9,20 +9,23 @@ use Rattle.effect.specs.declared.effect.Effect.TheVariants.{Advance}
 use Rattle.effect.specs.declared.exit.Exit.{Exit}
 use Rattle.effect.specs.declared.exit.Exit.TheVariants as E
 
+-- the constants of TGEIU and TLTIU too are sign-extended (document 01, Traps for the builder); TEQ, TNE, TEQI and TNEI compare words, which are equal exactly where their signed integers are
+abbrev pub condition : Trap → ℕ → ℕ → ℕ → Bool
+condition Tge a b v = le_z (signed_of 32 b) (signed_of 32 a)
+condition Tgeu a b v = leb b a
+condition Tlt a b v = lt_z (signed_of 32 a) (signed_of 32 b)
+condition Tltu a b v = ltb a b
+condition Teq a b v = eqb a b
+condition Tne a b v = not (eqb a b)
+condition Tgei a b v = le_z (signed_of 32 (extend_of 16 v)) (signed_of 32 a)
+condition Tgeiu a b v = leb (extend_of 16 v) a
+condition Tlti a b v = lt_z (signed_of 32 a) (signed_of 32 (extend_of 16 v))
+condition Tltiu a b v = ltb a (extend_of 16 v)
+condition Teqi a b v = eqb a (extend_of 16 v)
+condition Tnei a b v = not (eqb a (extend_of 16 v))
+
 unfoldable pub trap_if : Bool → Result Effect Exit
 trap_if t = cond t (Err E.Trap) (Ok Advance)
 
--- the constants of TGEIU and TLTIU too are sign-extended (document 01, Traps for the builder); TEQ, TNE, TEQI and TNEI compare words, which are equal exactly where their signed integers are
 abbrev pub trap_of : Trap → ℕ → ℕ → ℕ → Result Effect Exit
-trap_of Tge a b v = trap_if (le_z (signed_of 32 b) (signed_of 32 a))
-trap_of Tgeu a b v = trap_if (leb b a)
-trap_of Tlt a b v = trap_if (lt_z (signed_of 32 a) (signed_of 32 b))
-trap_of Tltu a b v = trap_if (ltb a b)
-trap_of Teq a b v = trap_if (eqb a b)
-trap_of Tne a b v = trap_if (not (eqb a b))
-trap_of Tgei a b v = trap_if (le_z (signed_of 32 (extend_of 16 v)) (signed_of 32 a))
-trap_of Tgeiu a b v = trap_if (leb (extend_of 16 v) a)
-trap_of Tlti a b v = trap_if (lt_z (signed_of 32 a) (signed_of 32 (extend_of 16 v)))
-trap_of Tltiu a b v = trap_if (ltb a (extend_of 16 v))
-trap_of Teqi a b v = trap_if (eqb a (extend_of 16 v))
-trap_of Tnei a b v = trap_if (not (eqb a (extend_of 16 v)))
+trap_of k a b v = trap_if (condition k a b v)

@@ -7,11 +7,12 @@ use std::io;
 use std::io::Write;
 use word::bytes::words;
 
-// More input is not read, in bytes.
+// More input is not read, in bytes. A limit of this program's own: it is no module.
 const LONGEST_INPUT: usize = 65536;
 
 const CASE: usize = 28;
 
+// A function that writes and no Display: it calls what it prints.
 fn run_case(out: &mut impl Write, case: [u32; 7]) -> io::Result<()> {
     match case {
         [0, word, ..] => {
@@ -41,7 +42,8 @@ fn run_cases(out: &mut impl Write, cases: &[u8]) -> io::Result<()> {
 }
 
 fn main(rt: HostRuntime) -> io::Result<()> {
+    // Of fixed size, as nothing is allocated.
     let mut space = [0u8; LONGEST_INPUT];
-    let n = input::read_full(&mut rt.stdin(), &mut space)?;
-    run_cases(&mut rt.stdout(), &space[..n])
+    let cases = input::read_part(&mut rt.stdin(), &mut space)?;
+    run_cases(&mut rt.stdout(), cases)
 }

@@ -6,13 +6,14 @@ ghost use Rattle.std.specs.Prelude.{◌≡◌, ◌<◌, ◌^◌, length};
 ghost use Rattle.checker.specs.Said.{verdict_of};
 ghost use Rattle.verdict.specs.Program as Spec;
 
+use checker::check::Candidate;
 use checker::verdict::Refused;
 use layout::Layout;
 use std::io::Write;
 use std::{fmt, io};
 
 // The longest module, in bytes.
-const LONGEST_MODULE: usize = 65536;
+const LONGEST_MODULE: usize = layout::LARGEST as usize;
 
 // One byte more, by which a longer input is told.
 const SPACE: usize = LONGEST_MODULE + 1;
@@ -51,12 +52,19 @@ fn judge(image: &[u8]) -> Result<(), Refused>
         data_base: 0x20000,
         data_size: 64,
     };
-    checker::check::check(layout, 196608, image)
+    let candidate = Candidate {
+        layout,
+        memory_length: 196608,
+        image,
+    };
+    candidate.check()
 }
 
 fn main(rt: HostRuntime) -> io::Result<()> {
+    // Of fixed size, as nothing is allocated.
     let mut space = [0u8; SPACE];
-    let n = input::read_full(&mut rt.stdin(), &mut space)?;
-    let said = judge(&space[..n]);
-    writeln!(rt.stdout(), "{}", Answer { said, words: n / 4 })
+    let image = input::read_part(&mut rt.stdin(), &mut space)?;
+    let said = judge(image);
+    let words = image.len() / 4;
+    writeln!(rt.stdout(), "{}", Answer { said, words })
 }

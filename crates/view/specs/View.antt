@@ -8,7 +8,7 @@ use Rattle.isa.specs.declared.kind.Instruction.{Instruction}
 use Rattle.class.specs.declared.Class.{Class}
 use Rattle.class.specs.declared.Flow.{Flow}
 use Rattle.class.specs.declared.Flow.TheVariants.{Onward, Relative, Region, Register}
-use Rattle.class.specs.Class.{class_of, register_written}
+use Rattle.class.specs.Class.{class_of, width_in, register_written}
 use Rattle.isa.specs.Reading.{read_of}
 use Rattle.view.specs.declared.View.{View}
 
@@ -63,7 +63,7 @@ classed i c =
       barred = is_barred i.kind i.value;
       flow = c.flow;
       link = c.link;
-      width = c.width;
+      width = width_in c.access;
       written = register_written i;
       rs = i.rs;
       rd = i.rd;

@@ -4,15 +4,17 @@
 ghost use Rattle.std.specs.Prelude.{◌≡◌};
 ghost use Rattle.view.specs.View as Spec;
 
-use class::{Flow, Width, class_of, named};
+use class::{Flow, class_of, named};
 use isa::kind::{Instruction, Kind, System};
+use isa::register;
+use isa::width::Width;
 
 #[derive(Clone, Copy)]
 pub struct View {
     // MFC0, MTC0, RFE, or BREAK with code 15
     pub barred: bool,
     pub flow: Flow,
-    // leaves a link
+    // leaves a link: beside the flow and not in it, since is_branch and rules 13, 15 and 20 ask of the flow alone
     pub link: bool,
     // None: not an access.
     pub width: Option<Width>,
@@ -27,7 +29,7 @@ pub struct View {
 pub fn is_base(r: u32) -> bool
     ensures { result ≡ Spec.is_base r }
 {
-    matches!(r, 26 | 27)
+    matches!(r, register::DATA_BASE | register::CODE_BASE)
 }
 
 fn is_barred(k: Kind, value: u32) -> bool
@@ -49,6 +51,7 @@ impl View {
     }
 }
 
+// No From: a view is what the rules ask of an instruction, and not the instruction in another form.
 #[tactic(auto, using(crate::proofs::Views::written), unfolding(crate::specs::View::seen))]
 fn seen(i: Instruction) -> View
     ensures { result ≡ Spec.seen i }
@@ -58,7 +61,7 @@ fn seen(i: Instruction) -> View
         barred: is_barred(i.kind, i.value),
         flow: class.flow,
         link: class.link,
-        width: class.width,
+        width: class.width(),
         written: named(class.destination, i),
         rs: i.rs,
         rd: i.rd,

@@ -5,7 +5,8 @@ ghost use Rattle.word.specs.Bytes.{load_of, store_of, words_at};
 // The longest memory, in bytes.
 pub const LONGEST: usize = 16777216;
 
-// N is at most 4, so that the number is a word.
+// N is at most 4, so that the number is a word, by a clause here and below, as no type of a const parameter holds bounds. By a place in the slice,
+// here and below, since an address of a memory is such a place.
 pub fn load<const N: usize>(s: &[u8], at: usize) -> u32
     requires within { at + N ≤ length s.now }
     requires width { N ≤ 4 }
@@ -31,9 +32,5 @@ pub fn words<const N: usize>(bytes: &[u8], at: usize) -> [u32; N]
     requires { at + 4 * N ≤ length bytes.now }
     ensures { result ≡ words_at N bytes.now at }
 {
-    let mut words = [0; N];
-    for k in 0..N {
-        words[k] = load::<4>(bytes, at + 4 * k);
-    }
-    words
+    std::array::from_fn(|k| load::<4>(bytes, at + 4 * k))
 }

@@ -1,7 +1,7 @@
 // The six fields of an instruction word, cut out by shifts and masks and put together again.
 ghost use Rattle.std.specs.Prelude.{◌≡◌, ◌+◌, ◌-◌, ◌*◌, ◌^◌, ◌<◌};
 
-#[derive(Clone, Copy)]
+#[derive(Clone, Copy, PartialEq, Eq)]
 pub struct Fields<T> {
     pub op: T,
     pub rs: T,
@@ -46,7 +46,8 @@ impl From<u32> for Fields<u32> {
     }
 }
 
-// A number with a field of BITS bits put below it. BITS is below 32, as no shift is by a whole word.
+// A number with a field of BITS bits put below it. BITS is below 32, as no shift is by a whole word: by a clause,
+// as no type of a const parameter holds bounds.
 #[tactic(auto, using(crate::proofs::Bits::append))]
 pub fn append<const BITS: u32>(v: u32, x: u32) -> u32
     requires width { BITS < 32 }

@@ -2,7 +2,8 @@
 ghost use Rattle.std.specs.Prelude.{◌≡◌, ◌<◌, ◌≤◌};
 ghost use Rattle.word.specs.Number.{extend_of};
 
-// sign_extend of the low BITS bits: their top bit, shifted to the word's, is shifted back as a sign. With no bits the shift would be by a whole word.
+// sign_extend of the low BITS bits: their top bit, shifted to the word's, is shifted back as a sign. With no bits the shift would be by a whole word:
+// clauses bound BITS, as no type of a const parameter does.
 #[tactic(auto, using(crate::proofs::Numbers::casts))]
 pub fn extend<const BITS: u32>(x: u32) -> u32
     requires some { 0 < BITS }

@@ -11,8 +11,8 @@ returns-in_err-s c =
 pub returns-in_err-after : goal.returns-in_err-after
 returns-in_err-after c =
     let p = err_from_is_err_and c.from_residual-in_err-after.result c.from_residual-in_err-after.ensures.1 in
-    rw (p.1, p.2) (resume_left c.args.state.now c.args.memory.now c.in_ok-s.s c.in_ok-s.ensures (λ i. search rules) _ c.in_err-after.ensures)
+    rw (p.1, p.2) (resume_left c.args.state.now c.args.memory.now (λ i. search rules) c.in_ok-s.s c.in_ok-s.ensures.1 _ c.in_err-after.ensures)
 
 pub returns : goal.returns
 returns c =
-    resume_done_call c.args.state.now c.args.memory.now c.in_ok-s.s c.in_ok-s.ensures _ _ _ c.encode.ensures c.in_ok-after.ensures
+    resume_done_call c.args.state.now c.args.memory.now (λ i. search rules) c.in_ok-s.s c.in_ok-s.ensures.1 _ _ _ c.encode.ensures c.in_ok-after.ensures

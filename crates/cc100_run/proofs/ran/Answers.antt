@@ -1,5 +1,6 @@
 use Rattle.std.proofs.lemmas.Result.{err_from_is_err_and}
-use Rattle.cc100.proofs.Calls.{run_refused_call, machine_serves, encodes, run_done_call}
+use borrow.Author.Rules.{rules}
+use Rattle.cc100.proofs.Calls.{run_refused_call, encodes, run_left, run_done_call}
 use Rattle.cc100_run.proofs.ran.Goals as goal
 
 pub returns-in_err-s : goal.returns-in_err-s
@@ -7,14 +8,15 @@ returns-in_err-s c =
     let p = err_from_is_err_and c.from_residual.result c.from_residual.ensures.1 in
     rw (p.1, p.2) (run_refused_call c.args.state.now c.args.memory.now c.args.budget _ c.in_err-s.ensures)
 
-pub run_unrefused-r-requires : goal.run_unrefused-r-requires
-run_unrefused-r-requires c =
-    machine_serves c.args.state.now c.args.memory.now c.in_ok-s.s c.in_ok-s.ensures
+pub returns-in_err-r : goal.returns-in_err-r
+returns-in_err-r c =
+    let p = err_from_is_err_and c.from_residual-in_err-r.result c.from_residual-in_err-r.ensures.1 in
+    rw (p.1, p.2) (run_left c.args.state.now c.args.memory.now (λ i. search rules) c.in_ok-s.s c.in_ok-s.ensures.1 _ _ c.args.budget c.in_err-r.ensures)
 
 pub returns-in_err-encode : goal.returns-in_err-encode
 returns-in_err-encode c =
-    encodes c.args.state.now c.args.memory.now c.in_ok-s.s c.in_ok-s.ensures _ _ _ c.in_err-encode.ensures
+    encodes c.args.state.now c.args.memory.now (λ i. search rules) c.in_ok-s.s c.in_ok-s.ensures.1 _ _ _ c.in_err-encode.ensures
 
 pub returns : goal.returns
 returns c =
-    run_done_call c.args.state.now c.args.memory.now c.in_ok-s.s c.in_ok-s.ensures _ _ _ c.encode.ensures _ _ _ _ c.args.budget c.run_unrefused-r.ensures
+    run_done_call c.args.state.now c.args.memory.now (λ i. search rules) c.in_ok-s.s c.in_ok-s.ensures.1 _ _ _ c.encode.ensures _ _ _ _ c.args.budget c.in_ok-r.ensures

@@ -1,6 +1,6 @@
 use Rattle.view.specs.View.{passes, is_branch}
 use Rattle.checker.proofs.Scan.{none_before, begun, handed_on, gone}
-use mathlib.Core.Path.{ap, ◌∙◌}
+use mathlib.Core.Path.{ap, sym, ◌∙◌}
 use Rattle.checker.proofs.words.check_words.Goals as goal
 
 pub loop-i-init : goal.loop-i-init
@@ -11,5 +11,5 @@ loop-i-preserved g c =
     let v = c.loop-i.invariant in
     let e = c.in_ok-after.ensures.passed in (
       handed_on _ _ e c.try_word.ensures.branch,
-      gone _ g.P.Profile.of_whole _ _ _ c.args.whole.sized.length_is c.loop-i-test.true v.0 e c.try_word.ensures.number ∙ v.1,
+      gone _ g.P.Profile.of_whole _ _ _ c.args.whole.sized.length_is (rw (sym c.words-i-end.ensures) c.loop-i-test.true) v.0 e c.try_word.ensures.number ∙ v.1,
     )

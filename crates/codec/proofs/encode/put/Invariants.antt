@@ -4,4 +4,4 @@ use Rattle.codec.proofs.encode.put.Given as goal
 
 -- what is left to store, stored, gives the whole answer
 abbrev pub invariant-loop-k : goal.invariant-loop-k
-invariant-loop-k g l = stores_of l.bytes (l.at + 4 * l.k) (drop l.k l.words) ≡ stores_of l.initial.bytes l.at l.words
+invariant-loop-k g l = stores_of l.bytes (l.at + 4 * l.k) (drop l.k l.word-items) ≡ stores_of l.initial.bytes l.at l.word-items

@@ -11,20 +11,22 @@ use Rattle.decision.proofs.Sound.{decision_sound}
 use Rattle.machine.specs.declared.state.State.{State}
 use Rattle.machine.specs.State.{register_of, special_of, join_of, Words}
 use Rattle.machine.proofs.Valid.{regular, performs}
-use Rattle.machine.proofs.Steps.{fetch_outside_law, fetch_nothing, fetch_decided, fetch_operands}
+use Rattle.machine.proofs.Steps.{fetch_outside, fetch_inside, fetch_nothing, fetch_decided, fetch_operands}
 use Rattle.machine.proofs.step.effect_at.Goals as goal
 
-pub returns-then-n-at : goal.returns-then-n-at
-returns-then-n-at c =
+pub returns-in_err-when : goal.returns-in_err-when
+returns-in_err-when c =
     let a = c.args in
-    (fetch_outside_law (join_of a.registers.now a.c) a.memory.now (omega (arith, c.if-n-at.true)), λ l. tt)
+    let p = err_from_is_err_and c.from_residual.result c.from_residual.ensures.1 in
+    rw (p.1, p.2) (fetch_outside (join_of a.registers.now a.c) a.memory.now _ c.in_err-when.ensures, λ l. tt)
 
 pub returns-in_err-i : goal.returns-in_err-i
 returns-in_err-i c =
     let a = c.args in
-    let p = err_from_is_err_and c.from_residual.result c.from_residual.ensures.1 in
+    let s = join_of a.registers.now a.c in
+    let p = err_from_is_err_and c.from_residual-in_err-i.result c.from_residual-in_err-i.ensures.1 in
     rw (p.1, p.2) (
-      fetch_nothing (join_of a.registers.now a.c) a.memory.now (omega (arith, c.if-n-at.false)) _ _ c.load-w.ensures.value c.read.ensures _ c.in_err-i.ensures.value,
+      fetch_nothing s a.memory.now (fetch_inside s a.memory.now c.in_ok-when.ensures) _ _ c.load-w.ensures.value c.read.ensures _ c.in_err-i.ensures.value,
       λ l. tt,
     )
 
@@ -47,6 +49,6 @@ returns c =
     let w : Words a.c = record { hi = omega arith; lo = omega arith; pc = omega arith; next_pc = omega arith; bad = omega arith; status = omega arith; cause = omega arith; epc = omega arith } in
     let o : Operands i = fetch_operands m _ _ _ i (λ x. (c.type_inv.memory x).fits) c.load-w.ensures.value c.read.ensures c.in_ok-i.ensures.ok_part in
     let e : c.decide.result ≡ decision_of i (register_of s.registers i.rs) (register_of s.registers i.rt) (special_of s) (length m) = rw (c.decide.ensures, c.register-b.ensures.0, c.register-a.ensures.0) in (
-      e ∙ fetch_decided s m (omega (arith, c.if-n-at.false)) _ _ c.load-w.ensures.value c.read.ensures i c.in_ok-i.ensures.ok_part,
+      e ∙ fetch_decided s m (fetch_inside s m c.in_ok-when.ensures) _ _ c.load-w.ensures.value c.read.ensures i c.in_ok-i.ensures.ok_part,
       λ l. performs s m _ c.decide.ensures (decision_sound i o c.register-a.ensures.1 c.register-b.ensures.1 (regular a.registers.now a.c w l) (length m)) w l,
     )

@@ -1,5 +1,6 @@
 use Rattle.quick.proofs.Guards.{merge_told}
+use mathlib.Core.Path.{◌∙◌}
 use Rattle.quick.proofs.guard.is_merge.Goals as goal
 
 pub returns : goal.returns
-returns c = merge_told _ c.from-f.ensures.0 _ _
+returns c = c.eq.ensures ∙ merge_told _ c.from.ensures.0 _ _
