@@ -1,5 +1,5 @@
 -- Document 004, sections 1.1.1 to 1.1.4: one clause for each instruction, beside its Operation in 1.2. a is GPR[rs], b is GPR[rt].
-use Rattle.std.specs.Prelude.{ℕ, ◌*◌, ◌-◌, ◌%◌, ◌/◌, ◌^◌, Bool, cond, eqb, ltb, Result, Ok, Err, ℤ, ◌+ℤ◌, ◌-ℤ◌, ◌*ℤ◌}
+use Rattle.std.specs.Prelude.{ℕ, ◌≡◌, ◌⊎◌, ◌*◌, ◌-◌, ◌%◌, ◌/◌, ◌^◌, Bool, cond, eqb, ltb, Result, Ok, Err, ℤ, ◌+ℤ◌, ◌-ℤ◌, ◌*ℤ◌}
 use Rattle.std.specs.Int.Bits.{bit_and, bit_or, bit_xor}
 use Rattle.std.specs.Int.Signed.{lt_z, quot_z, rem_z, shr_z}
 use Rattle.word.specs.Number.{signed_of, fits_of, wrap_of, extend_of, sum_of, difference_of}
@@ -12,7 +12,7 @@ use Rattle.isa.specs.declared.kind.Shift.TheVariants.{Sll, Srl, Sra, Sllv, Srlv,
 use Rattle.isa.specs.declared.kind.Multiply.{Multiply}
 use Rattle.isa.specs.declared.kind.Multiply.TheVariants.{Mult, Multu, Div, Divu, Mfhi, Mthi, Mflo, Mtlo}
 use Rattle.effect.specs.declared.effect.Effect.{Effect}
-use Rattle.effect.specs.declared.effect.Effect.TheVariants.{Advance, Write, Pair}
+use Rattle.effect.specs.declared.effect.Effect.TheVariants.{Write, Pair}
 use Rattle.effect.specs.declared.exit.Exit.{Exit}
 use Rattle.effect.specs.declared.exit.Exit.TheVariants as E
 
@@ -71,22 +71,26 @@ shift_of Srav rd a b sa = Write rd (shifted_signed b (a % 2 ^ 5))
 unfoldable pub product : ℕ → Effect
 product p = Pair (p / 2 ^ 32) (p % 2 ^ 32)
 
--- HI and LO stay as they are (document 01, Machine, of DIV; we read it of DIVU too)
-abbrev pub zero_divisor : Effect
-zero_divisor = Advance
+-- a zero divisor: LO gets 0xFFFFFFFF and HI the dividend, for DIV and DIVU alike (document 02, Ticket 4, which amends document 01's line)
+abbrev pub zero_divisor : ℕ → Effect
+zero_divisor dividend = Pair dividend 0xFFFFFFFF
 
 -- LO gets the quotient, HI the remainder
-unfoldable pub divided : ℕ → ℕ → ℕ → Effect
-divided divisor quotient remainder = cond (eqb divisor 0) zero_divisor (Pair remainder quotient)
+unfoldable pub divided : ℕ → ℕ → ℕ → ℕ → Effect
+divided dividend divisor quotient remainder = cond (eqb divisor 0) (zero_divisor dividend) (Pair remainder quotient)
 
 -- 1.1.4, multiply and divide; DIV truncates towards zero, and its remainder has the dividend's sign (document 01, Machine)
 abbrev pub multiply_of : Multiply → ℕ → ℕ → ℕ → ℕ → ℕ → Effect
 multiply_of Mult rd a b hi lo = product (wrap_of 64 (signed_of 32 a *ℤ signed_of 32 b))
 multiply_of Multu rd a b hi lo = product (a * b)
 multiply_of Div rd a b hi lo =
-    divided b (wrap_of 32 (quot_z (signed_of 32 a) (signed_of 32 b))) (wrap_of 32 (rem_z (signed_of 32 a) (signed_of 32 b)))
-multiply_of Divu rd a b hi lo = divided b (a / b) (a % b)
+    divided a b (wrap_of 32 (quot_z (signed_of 32 a) (signed_of 32 b))) (wrap_of 32 (rem_z (signed_of 32 a) (signed_of 32 b)))
+multiply_of Divu rd a b hi lo = divided a b (a / b) (a % b)
 multiply_of Mfhi rd a b hi lo = Write rd hi
 multiply_of Mthi rd a b hi lo = Pair a lo
 multiply_of Mflo rd a b hi lo = Write rd lo
 multiply_of Mtlo rd a b hi lo = Pair hi a
+
+-- the instructions that divide
+abbrev pub Divides : Multiply → Type 0
+Divides k = (k ≡ Div) ⊎ (k ≡ Divu)

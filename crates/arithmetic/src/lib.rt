@@ -8,8 +8,8 @@ use effect::effect::Effect;
 use effect::exit::Exit;
 use isa::kind::{Alu, Immediate, Multiply, Shift};
 
-// What a division by zero does.
-const ZERO_DIVISOR: Effect = Effect::Advance;
+// What LO gets by a division by zero (document 02, Ticket 4).
+const NO_QUOTIENT: u32 = 0xFFFF_FFFF;
 
 // A line for each instruction, here and below, as document 004 has them.
 #[tactic(auto, using(crate::proofs::Sums::sum_written, crate::proofs::Sums::sum_exits), unfolding(crate::specs::Arithmetic::bit))]
@@ -71,7 +71,7 @@ fn product(p: u64) -> Effect
     Effect::Pair((p >> 32) as u32, (p & 0xFFFF_FFFF) as u32)
 }
 
-// Each arm names its effect: some write a register, some set HI and LO, and a division by zero does neither.
+// Each arm names its effect: some write a register, some set HI and LO.
 #[tactic(auto, unfolding(crate::specs::Arithmetic::divided))]
 pub fn multiply(k: Multiply, rd: u32, a: u32, b: u32, hi: u32, lo: u32) -> Effect
     ensures { result ≡ Spec.multiply_of k rd a b hi lo }
@@ -79,7 +79,7 @@ pub fn multiply(k: Multiply, rd: u32, a: u32, b: u32, hi: u32, lo: u32) -> Effec
     match k {
         Multiply::Mult => product(signed::product(a, b)),
         Multiply::Multu => product(u64::from(a) * u64::from(b)),
-        Multiply::Div | Multiply::Divu if b == 0 => ZERO_DIVISOR,
+        Multiply::Div | Multiply::Divu if b == 0 => Effect::Pair(a, NO_QUOTIENT),
         Multiply::Div => Effect::Pair(signed::remainder(a, b), signed::quotient(a, b)),
         Multiply::Divu => Effect::Pair(a % b, a / b),
         Multiply::Mfhi => Effect::Write(rd, hi),

@@ -142,7 +142,7 @@ module _ {k : Kind} {i : Instruction} {a : ℕ} {c : Special} {n : ℕ} where
   unfolding product
   multiplies p o = does o
 
-  divides : (d q r : ℕ) → On k i a c n → Obeys k i a c n (Ok (divided d q r))
+  divides : {x : ℕ} (d q r : ℕ) → On k i a c n → Obeys k i a c n (Ok (divided x d q r))
   unfolding divided
   divides d q r o = one_of (eqb d 0) (does o) (does o)
 

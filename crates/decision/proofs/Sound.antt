@@ -97,9 +97,9 @@ multiplies : {n at w : ℕ} (p : ℕ) → p < 2 ^ 64 → Sound (Ok (product p)) 
 unfolding product
 multiplies p h = pairs (omega arith) (omega arith)
 
-divides : {n at w q r : ℕ} (d : ℕ) → Word q → Word r → Sound (Ok (divided d q r)) n at w
+divides : {n at w a q r : ℕ} (d : ℕ) → Word a → Word q → Word r → Sound (Ok (divided a d q r)) n at w
 unfolding divided
-divides d h k = one_of (eqb d 0) advances (pairs k h)
+divides d ha h k = one_of (eqb d 0) (pairs ha (omega arith)) (pairs k h)
 
 half_below : (v : ℕ) → v % 2 ^ 16 < 2 ^ 32
 half_below v = omega arith
@@ -152,8 +152,8 @@ module _ {n at w rd a b : ℕ} (h : Register rd) (ha : Word a) (hb : Word b) whe
     multiply_sound Mult = multiplies _ (wrap_below 64 (signed_of 32 a *ℤ signed_of 32 b))
     multiply_sound Multu = multiplies _ (mul-lt a b (2 ^ 32) (2 ^ 32) ha hb)
     multiply_sound Div =
-        divides b (wrap_below 32 (quot_z (signed_of 32 a) (signed_of 32 b))) (wrap_below 32 (rem_z (signed_of 32 a) (signed_of 32 b)))
-    multiply_sound Divu = divides b (omega (arith, div-le_self a b)) (omega (arith, mod-le a b))
+        divides b ha (wrap_below 32 (quot_z (signed_of 32 a) (signed_of 32 b))) (wrap_below 32 (rem_z (signed_of 32 a) (signed_of 32 b)))
+    multiply_sound Divu = divides b ha (omega (arith, div-le_self a b)) (omega (arith, mod-le a b))
     multiply_sound Mfhi = writes h hh
     multiply_sound Mthi = pairs ha hl
     multiply_sound Mflo = writes h hl

@@ -86,7 +86,7 @@ directed_whole Sc a = refl
 -- ---- the step
 
 module _ (s : State) (m : List ℕ) (i : Instruction) (fetched : s.special.pc + 4 ≤ length m) (reads : read_of (load_of 4 m s.special.pc) ≡ Some i) where
-  effect_is : effect_at s m ≡ effect_of i s (length m)
+  pub effect_is : effect_at s m ≡ effect_of i s (length m)
   unfolding effect_at
   effect_is = rw (le-leb (s.special.pc + 4) (length m) fetched, reads)
 
