@@ -1,4 +1,5 @@
--- The theorems about a division (document 02, Ticket 4): what a zero divisor leaves, what every other leaves, and that HI and LO tell the two apart.
+-- The theorems about a division (document 02, Ticket 4): what a zero divisor leaves, what every other leaves, and that LO and HI, beside the dividend,
+-- tell the two apart.
 use Rattle.std.proofs.Common.{◌≡◌, ℕ, zero, suc, ◌-◌, ◌/◌, ◌%◌, ◌^◌, ◌<◌, ◌≤◌, ℤ, pos, negsuc, neg_ℤ, nat_abs, int_div, int_rem, refl, sym, ◌∙◌, inl, inr, ⊎_elim, mod-lt, arith, ne_eqb, eq-zero-or-pos, ne_of_gt, eqb}
 use native.Mathlib.Nat.{mod-le, div-eq_of_lt}
 use Rattle.std.proofs.lemmas.Bool.{cases_lt}
@@ -65,10 +66,10 @@ signed_some b h p = ⊎_elim (λ l. rw (signed_low 32 b l) p) (λ l. rw (signed_
 signed_again : (a : ℕ) → Word a → wrap_of 32 (signed_of 32 a) ≡ a
 signed_again a h = ⊎_elim (λ l. rw (signed_low 32 a l) (omega arith)) (λ l. rw (signed_high 32 a l h) (omega arith)) (cases_lt a (2 ^ 31))
 
--- ---- and so HI and LO tell whether the divisor was 0, as the compiler house tests them
+-- ---- and so LO and HI, beside the dividend, tell whether the divisor was 0
 
-signed_untold : (a b : ℕ) → Word a → Word b → 0 < b → wrap_of 32 (int_rem (signed_of 32 a) (signed_of 32 b)) ≡ a → wrap_of 32 (int_div (signed_of 32 a) (signed_of 32 b)) ≡ 0
-signed_untold a b ha hb p e =
+signed_kept_nothing : (a b : ℕ) → Word a → Word b → 0 < b → wrap_of 32 (int_rem (signed_of 32 a) (signed_of 32 b)) ≡ a → wrap_of 32 (int_div (signed_of 32 a) (signed_of 32 b)) ≡ 0
+signed_kept_nothing a b ha hb p e =
     quotient_word (signed_of 32 a) (signed_of 32 b)
     (small_quotient _ _ (signed_some b hb p)
     (magnitude_kept (signed_of 32 a) (signed_of 32 b) (signed_magnitude a ha) (e ∙ sym (signed_again a ha))))
@@ -80,7 +81,7 @@ module _ (rd a b hi lo : ℕ) (ha : Word a) (hb : Word b) where
   told_signed : 0 < b → multiply_of Div rd a b hi lo ≡ Pair a 0xFFFFFFFF → ⊥
   told_signed p e =
       let (r, q) = parted (sym (div_by_some rd a b hi lo (ne_of_gt p)) ∙ e) in
-      omega (arith, q, signed_untold a b ha hb p r)
+      omega (arith, q, signed_kept_nothing a b ha hb p r)
 
   told_unsigned : 0 < b → multiply_of Divu rd a b hi lo ≡ Pair a 0xFFFFFFFF → ⊥
   told_unsigned p e =

@@ -71,11 +71,11 @@ shift_of Srav rd a b sa = Write rd (shifted_signed b (a % 2 ^ 5))
 unfoldable pub product : ℕ → Effect
 product p = Pair (p / 2 ^ 32) (p % 2 ^ 32)
 
--- a zero divisor: LO gets 0xFFFFFFFF and HI the dividend, for DIV and DIVU alike (document 02, Ticket 4, which amends document 01's line)
+-- a zero divisor: LO gets 0xFFFFFFFF and HI the dividend, for DIV and DIVU alike (document 02, Ticket 4, in place of document 01's line)
 abbrev pub zero_divisor : ℕ → Effect
 zero_divisor dividend = Pair dividend 0xFFFFFFFF
 
--- LO gets the quotient, HI the remainder
+-- Pair sets HI first: HI gets the remainder, LO the quotient
 unfoldable pub divided : ℕ → ℕ → ℕ → ℕ → Effect
 divided dividend divisor quotient remainder = cond (eqb divisor 0) (zero_divisor dividend) (Pair remainder quotient)
 

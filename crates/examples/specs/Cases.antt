@@ -1,4 +1,4 @@
--- Document 01's marked cases, C1 to C12, as rows of one table: a question put to the definitions, and the finding wanted.
+-- Document 01's marked cases, C1 to C12, as rows of one table: a question put to the definitions, and the finding wanted. Divisions beside them.
 use Rattle.std.specs.Prelude.{ℕ, ◌+◌, false, cond, List, [], ◌∷◌, ◌++◌, map, eqb, replicate}
 use Rattle.checker.specs.declared.verdict.Verdict.{Verdict}
 use Rattle.checker.specs.Examples as E
@@ -73,6 +73,23 @@ steps =
     ∷ row (Pair 0x0022001A 0xFFFFFFF9 2) (HiLo 0xFFFFFFFF 0xFFFFFFFD)
     -- C8: BEQ 0,0,-1
     ∷ row (Target 0x1000FFFF 0x100) (Leads 0x100)
+    ∷ []
+
+-- divisions by 0, and those that leave what one of them might (document 02, Ticket 4)
+abbrev pub divisions : List Case
+divisions =
+    -- DIV 1,2 and DIVU 1,2
+    row (Pair 0x0022001A 5 0) (HiLo 5 0xFFFFFFFF)
+    ∷ row (Pair 0x0022001B 5 0) (HiLo 5 0xFFFFFFFF)
+    ∷ row (Pair 0x0022001A 0x80000000 0) (HiLo 0x80000000 0xFFFFFFFF)
+    ∷ row (Pair 0x0022001B 0xFFFFFFFF 0) (HiLo 0xFFFFFFFF 0xFFFFFFFF)
+    ∷ row (Pair 0x0022001A 0 0) (HiLo 0 0xFFFFFFFF)
+    -- 1 by -1, and 0xFFFFFFFF by 1: the quotient is 0xFFFFFFFF
+    ∷ row (Pair 0x0022001A 1 0xFFFFFFFF) (HiLo 0 0xFFFFFFFF)
+    ∷ row (Pair 0x0022001B 0xFFFFFFFF 1) (HiLo 0 0xFFFFFFFF)
+    -- 5 by 7: the remainder is the dividend
+    ∷ row (Pair 0x0022001A 5 7) (HiLo 5 0)
+    ∷ row (Pair 0x0022001B 5 7) (HiLo 5 0)
     ∷ []
 
 -- C9 to C12 stand in the checker's table
