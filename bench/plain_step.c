@@ -77,21 +77,17 @@ INLINE void product(struct plain_state *s, uint64_t x)
     s->lo = (uint32_t)x;
 }
 
-/* 64 bits hold the quotient of the lowest number by -1. */
+/* By zero LO is all ones and HI the dividend. 64 bits hold the quotient of the lowest number by -1. */
 INLINE void divide(struct plain_state *s, int64_t a, int64_t b)
 {
-    if (b) {
-        s->lo = (uint32_t)(a / b);
-        s->hi = (uint32_t)(a % b);
-    }
+    s->lo = b ? (uint32_t)(a / b) : UINT32_MAX;
+    s->hi = (uint32_t)(b ? a % b : a);
 }
 
 INLINE void divide_unsigned(struct plain_state *s, uint32_t a, uint32_t b)
 {
-    if (b) {
-        s->lo = a / b;
-        s->hi = a % b;
-    }
+    s->lo = b ? a / b : UINT32_MAX;
+    s->hi = b ? a % b : a;
 }
 
 INLINE uint32_t special(struct plain_state *s, uint32_t w, uint32_t pc, uint32_t *target)

@@ -65,7 +65,7 @@ static const struct loop loops[] = {
         0x00004810, /* 24: MFHI 9 */
         0x01090018, /* 28: MULT 8,9 */
         0x00005010, /* 32: MFHI 10 */
-        0x35080001, /* 36: ORI 8,8,1, as MIPS does not say what a zero divisor gives */
+        0x35080001, /* 36: ORI 8,8,1, as a zero divisor gives other values on Unicorn: MIPS does not say */
         0x0148001B, /* 40: DIVU 10,8 */
         0x00005812, /* 44: MFLO 11 */
         0x14F8FFF3, /* 48: BNE 7,24 to 0 */

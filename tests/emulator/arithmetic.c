@@ -95,11 +95,12 @@ static uint32_t set_hi_lo(struct step *s, uint32_t hi, uint32_t lo)
     return DONE;
 }
 
-/* A zero divisor leaves HI and LO. Division in C truncates towards zero, as document 01 asks, and 64 bits hold -2^31 / -1. */
+/* A zero divisor sets LO to 0xFFFFFFFF and HI to the dividend (document 02, Ticket 4). Division in C truncates towards zero, as document 01
+   asks, and 64 bits hold -2^31 / -1. */
 static uint32_t divide(struct step *s, int64_t dividend, int64_t divisor)
 {
     if (divisor == 0)
-        return DONE;
+        return set_hi_lo(s, (uint32_t)dividend, 0xFFFFFFFF);
     return set_hi_lo(s, (uint32_t)(dividend % divisor), (uint32_t)(dividend / divisor));
 }
 

@@ -1,4 +1,4 @@
-/* A second CC100-C machine, reader, writer and checker, written from documents 004 and 01 and tickets 1 and 2 of document 02 alone. It shares
+/* A second CC100-C machine, reader, writer and checker, written from documents 004 and 01 and tickets 1, 2 and 4 of document 02 alone. It shares
    nothing with the product: neither its Rattle sources nor its C header. It is meant to be read beside the documents, not to be fast.
 
    The numbers that it gives are those of documents 01 and 02: 0 for done, 1 to 21 for refusals, 40 to 52 for exits. */
