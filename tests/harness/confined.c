@@ -19,7 +19,7 @@ static struct lent began, twin_began; /* memory as it was at the start */
 
 static struct counts {
     unsigned long modules, calls, steps, accesses[KINDS + 1], first, last, exits[CC100_EXIT_STOP_CORES + 1];
-    unsigned long resumed, refused, changes, jumps[2], spent, carried[KINDS + 1], not_stored;
+    unsigned long resumed, refused, changes, jumps[2], spent, carried[KINDS + 1], not_stored, by_zero[KINDS + 1];
     struct handed_on handed_on;
 } counts;
 static uint32_t spent_in_a_row; /* runs since the last exit */
@@ -99,6 +99,8 @@ static uint32_t look_and_step(struct em_access *access)
 {
     struct em_tried tried;
     uint32_t kind = look_at_step(&tried);
+    if (kind == DIV || kind == DIVU)
+        counts.by_zero[division_by_zero(&emulator)]++;
     uint32_t number = em_step(emulator.state.bytes, emulator.state.length, emulator.memory.bytes, emulator.memory.length, access);
     now.call = "em_step";
     if (number == CC100_DONE) {
@@ -287,6 +289,7 @@ static void require_counts(void)
     at_least("JR", LEAST, counts.jumps[1]);
     at_least("budgets spent", LEAST, counts.spent);
     at_least("SC that do not store", LEAST, counts.not_stored);
+    require_divisions(counts.by_zero, LEAST);
     require_handed_on(&counts.handed_on, LEAST);
 }
 
@@ -314,8 +317,9 @@ void test_confined(void)
     require_counts();
     end_part("%lu modules, %lu calls, %lu steps tried; accesses of width 1 %lu, 2 %lu, 4 %lu, at the first byte %lu, at the last %lu; "
              "register jumps %lu; exits 40 to 48:%s; resumes %lu given, %lu refused; changes by the host %lu; SC stored %lu, not %lu; runs "
-             "without an access %lu, with one before an exit %lu, with one before the last step %lu",
+             "without an access %lu, with one before an exit %lu, with one before the last step %lu; DIV by zero %lu, DIVU %lu",
              counts.modules, counts.calls, counts.steps, accesses_of(1), accesses_of(2), accesses_of(4), counts.first, counts.last,
              counts.jumps[0] + counts.jumps[1], listed(counts.exits, 40, 48), counts.resumed, counts.refused, counts.changes,
-             counts.carried[SC], counts.not_stored, counts.handed_on.none, counts.handed_on.before_exit, counts.handed_on.earlier);
+             counts.carried[SC], counts.not_stored, counts.handed_on.none, counts.handed_on.before_exit, counts.handed_on.earlier,
+             counts.by_zero[DIV], counts.by_zero[DIVU]);
 }

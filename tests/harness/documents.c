@@ -1,5 +1,5 @@
-/* Document 01's own answers, written down from it by hand: its marked cases C1 to C12, and every example of its refusal table; and the accesses
-   and the straight-through modules of tickets 1 and 2 of document 02. The emulator is tried on them, as all else here trusts it, and the product
+/* Document 01's own answers, written down from it by hand: its marked cases C1 to C12, and every example of its refusal table; and the accesses,
+   the straight-through modules and the divisions of tickets 1, 2 and 4 of document 02. The emulator is tried on them, as all else here trusts it, and the product
    and plain C beside it. */
 #include <string.h>
 
@@ -27,11 +27,32 @@ static const struct step_case step_cases[] = {
     {"C7 DIV 9,10", 0, 0x012A001A, 0xFFFFFFF9, 2, 0, CC100_LO, 0xFFFFFFFD, CC100_HI, 0xFFFFFFFF},
     {"C8 BEQ 0,0,-1", 0x100, 0x1000FFFF, 0, 0, 0, CC100_NEXT_PC, 0x100, CC100_PC, 0x104},
     {"Machine: 0x80000000 by -1", 0, 0x012A001A, 0x80000000, 0xFFFFFFFF, 0, CC100_LO, 0x80000000, CC100_HI, 0},
-    {"Machine: a zero divisor", 0, 0x012A001A, 5, 0, 0, CC100_LO, 0x5678, CC100_HI, 0x1234},
     {"Traps: TGEIU 9,0xFFFF", 0, 0x0529FFFF, 5, 0, 0, UNCHANGED, 0, UNCHANGED, 0},
     {"Traps: TLTIU 9,0xFFFF", 0, 0x052BFFFF, 5, 0, 48, UNCHANGED, 0, UNCHANGED, 0},
     {"Traps: BLTZAL 9 not taken", 0, 0x05300004, 5, 0, 0, CC100_REGISTER(31), 8, CC100_NEXT_PC, 8},
     {"17 PC 2", 2, 0, 0, 0, 17, UNCHANGED, 0, UNCHANGED, 0},
+};
+
+/* Ticket 4's zero divisors, and divisions by another that come near to its LO and HI; C7 and 0x80000000 by -1 are above. */
+static const struct step_case division_cases[] = {
+    {"DIV of 0 by 0", 0, 0x012A001A, 0, 0, 0, CC100_LO, 0xFFFFFFFF, CC100_HI, 0},
+    {"DIV of 5 by 0", 0, 0x012A001A, 5, 0, 0, CC100_LO, 0xFFFFFFFF, CC100_HI, 5},
+    {"DIV of 0x80000000 by 0", 0, 0x012A001A, 0x80000000, 0, 0, CC100_LO, 0xFFFFFFFF, CC100_HI, 0x80000000},
+    {"DIV of 0xFFFFFFFF by 0", 0, 0x012A001A, 0xFFFFFFFF, 0, 0, CC100_LO, 0xFFFFFFFF, CC100_HI, 0xFFFFFFFF},
+    {"DIV of 5 by register 0", 0, 0x0120001A, 5, 7, 0, CC100_LO, 0xFFFFFFFF, CC100_HI, 5},
+    {"DIVU of 0 by 0", 0, 0x012A001B, 0, 0, 0, CC100_LO, 0xFFFFFFFF, CC100_HI, 0},
+    {"DIVU of 5 by 0", 0, 0x012A001B, 5, 0, 0, CC100_LO, 0xFFFFFFFF, CC100_HI, 5},
+    {"DIVU of 0x80000000 by 0", 0, 0x012A001B, 0x80000000, 0, 0, CC100_LO, 0xFFFFFFFF, CC100_HI, 0x80000000},
+    {"DIVU of 0xFFFFFFFF by 0", 0, 0x012A001B, 0xFFFFFFFF, 0, 0, CC100_LO, 0xFFFFFFFF, CC100_HI, 0xFFFFFFFF},
+    {"DIVU of 5 by register 0", 0, 0x0120001B, 5, 7, 0, CC100_LO, 0xFFFFFFFF, CC100_HI, 5},
+    {"DIVU of 0xFFFFFFFF by 1", 0, 0x012A001B, 0xFFFFFFFF, 1, 0, CC100_LO, 0xFFFFFFFF, CC100_HI, 0},
+    {"DIV of 0xFFFFFFFF by 1", 0, 0x012A001A, 0xFFFFFFFF, 1, 0, CC100_LO, 0xFFFFFFFF, CC100_HI, 0},
+    {"DIV of 1 by -1", 0, 0x012A001A, 1, 0xFFFFFFFF, 0, CC100_LO, 0xFFFFFFFF, CC100_HI, 0},
+    {"DIV of -3 by 2", 0, 0x012A001A, 0xFFFFFFFD, 2, 0, CC100_LO, 0xFFFFFFFF, CC100_HI, 0xFFFFFFFF},
+    {"DIV of -1 by 2", 0, 0x012A001A, 0xFFFFFFFF, 2, 0, CC100_LO, 0, CC100_HI, 0xFFFFFFFF},
+    {"DIVU of 5 by 7", 0, 0x012A001B, 5, 7, 0, CC100_LO, 0, CC100_HI, 5},
+    {"DIVU of 0x80000000 by 0xFFFFFFFF", 0, 0x012A001B, 0x80000000, 0xFFFFFFFF, 0, CC100_LO, 0, CC100_HI, 0x80000000},
+    {"DIV of 0 by 5", 0, 0x012A001A, 0, 5, 0, CC100_LO, 0, CC100_HI, 0},
 };
 
 static void expect_place(uint8_t *expected, uint32_t place, uint32_t value)
@@ -233,6 +254,8 @@ void test_documents(void)
     product = machine_for(MEMORY);
     for (size_t i = 0; i < COUNT(step_cases); i++)
         try_case(&step_cases[i]);
+    for (size_t i = 0; i < COUNT(division_cases); i++)
+        try_case(&division_cases[i]);
     for (size_t i = 0; i < COUNT(access_cases); i++)
         try_access(&access_cases[i]);
     for (size_t i = 0; i < COUNT(module_cases); i++)
@@ -240,6 +263,6 @@ void test_documents(void)
     for (size_t i = 0; i < COUNT(straight_cases); i++)
         try_module(&straight, &straight_cases[i]);
     other_refusals();
-    end_part("%zu steps and %zu modules with document 01's answers, %zu accesses and %zu straight-through modules with document 02's",
-             COUNT(step_cases) + 2, COUNT(module_cases), COUNT(access_cases), COUNT(straight_cases));
+    end_part("%zu steps and %zu modules with document 01's answers, %zu accesses, %zu divisions and %zu straight-through modules with document 02's",
+             COUNT(step_cases) + 2, COUNT(module_cases), COUNT(access_cases), COUNT(division_cases), COUNT(straight_cases));
 }

@@ -82,6 +82,10 @@ void require_handed_on(const struct handed_on *h, uint64_t least);
 /* A run by plain C on its machine, compared with what the emulator has left and answered. */
 void compare_plain_run(struct machine *plain, const struct machine *emulator, uint32_t budget, uint32_t number, uint32_t steps);
 
+/* DIV or DIVU where the step of the state is such a division and its divisor is zero, else 0. */
+uint32_t division_by_zero(const struct machine *m);
+void require_divisions(const unsigned long *by_zero, uint64_t least); /* of both kinds, counted by these two numbers */
+
 /* Whether an exit is one of the four that a module may end in. */
 int allowed(uint32_t exit);
 

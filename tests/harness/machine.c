@@ -193,6 +193,21 @@ void compare_plain_run(struct machine *plain, const struct machine *emulator, ui
     same_machine(emulator, plain);
 }
 
+uint32_t division_by_zero(const struct machine *m)
+{
+    uint64_t pc = state_word(m, CC100_PC);
+    if (pc + 4 > m->memory.length)
+        return 0;
+    struct em_instruction i = em_read(cc100_get_word(m->memory.bytes + pc));
+    return (i.kind == DIV || i.kind == DIVU) && state_word(m, CC100_REGISTER(i.rt)) == 0 ? i.kind : 0;
+}
+
+void require_divisions(const unsigned long *by_zero, uint64_t least)
+{
+    at_least("DIV by zero", least, by_zero[DIV]);
+    at_least("DIVU by zero", least, by_zero[DIVU]);
+}
+
 int allowed(uint32_t exit)
 {
     return exit == CC100_EXIT_INTEGER_OVERFLOW || (exit >= CC100_EXIT_SYSTEM_CALL && exit <= CC100_EXIT_TRAP);

@@ -8,9 +8,11 @@
 #define LONGEST 256
 #define LEAST_ENDED 100
 #define LEAST_STEPS 1000000
+#define LEAST_BY_ZERO 2000
 
 static struct machine emulator, product, plain, again;
 static unsigned long machines, runs, steps, resumes, not_resumed, ended[CC100_EXIT_STOP_CORES + 1];
+static unsigned long by_zero[KINDS + 1]; /* completed divisions by zero; kind 0 is all other steps */
 static struct handed_on handed_on;
 
 /* Mostly a legal word. Its constant is often small, so that accesses, branches and jumps stay in memory, and code 15 is not rare. */
@@ -45,13 +47,14 @@ static void random_machine(void)
     copy_machine(&product, &emulator);
 }
 
-/* Whether the last of the steps that a run completed had an access itself. They are taken again, from where the run began. */
-static int access_in_last(uint32_t completed)
+/* Takes the steps that a run completed again, one by one from where it began. Gives whether the last of them had an access itself. */
+static int take_again(uint32_t completed)
 {
-    struct em_access access;
-    uint32_t before;
-    em_run(again.state.bytes, again.state.length, again.memory.bytes, again.memory.length, completed - 1, &before, &access);
-    em_step(again.state.bytes, again.state.length, again.memory.bytes, again.memory.length, &access);
+    struct em_access access = {0, 0, 0};
+    for (uint32_t i = 0; i < completed; i++) {
+        by_zero[division_by_zero(&again)]++;
+        em_step(again.state.bytes, again.state.length, again.memory.bytes, again.memory.length, &access);
+    }
     return access.width != 0;
 }
 
@@ -64,7 +67,7 @@ static int run_and_resume(void)
     copy_machine(&again, &emulator);
     uint32_t number = compare_run(&emulator, &product, budget, &completed, &access);
     compare_plain_run(&plain, &emulator, budget, number, completed);
-    count_handed_on(&handed_on, number, completed, access, access.width != 0 && access_in_last(completed));
+    count_handed_on(&handed_on, number, completed, access, take_again(completed));
     runs++;
     steps += completed;
     if (number <= CC100_EXIT_STOP_CORES)
@@ -85,6 +88,7 @@ static void require_counts(void)
     at_least("resumes given", LEAST_ENDED, resumes);
     at_least("resumes refused", LEAST_ENDED, not_resumed);
     at_least("steps", LEAST_STEPS, steps);
+    require_divisions(by_zero, LEAST_BY_ZERO);
     require_handed_on(&handed_on, LEAST_ENDED);
 }
 
@@ -104,6 +108,7 @@ void test_runs(void)
     }
     require_counts();
     end_part("%lu machines, %lu runs of %lu steps, %lu still running; exits 40 to 52:%s; resumes %lu given, %lu refused; runs without an access "
-             "%lu, with one before an exit %lu, with one before the last step %lu", machines, runs, steps, ended[0], listed(ended, 40, 52),
-             resumes, not_resumed, handed_on.none, handed_on.before_exit, handed_on.earlier);
+             "%lu, with one before an exit %lu, with one before the last step %lu; DIV by zero %lu, DIVU %lu", machines, runs, steps, ended[0],
+             listed(ended, 40, 52), resumes, not_resumed, handed_on.none, handed_on.before_exit, handed_on.earlier, by_zero[DIV],
+             by_zero[DIVU]);
 }

@@ -10,6 +10,7 @@
 static struct machine emulator, product, plain;
 static unsigned long steps, tried[KINDS + 1], completed[KINDS + 1], ended[CC100_EXIT_STOP_CORES + 1];
 static unsigned long carried[KINDS + 1], bare[KINDS + 1]; /* completed steps with an access and without, by the kind at PC */
+static unsigned long edges_by_zero[KINDS + 1], random_by_zero[KINDS + 1]; /* completed divisions by zero; kind 0 is all other steps */
 
 /* Values of the two source registers. The last ten are counted from the end of memory. */
 static const uint32_t values[] = {
@@ -107,8 +108,8 @@ static void count_access(uint32_t kind, struct em_access access)
     carried[kind]++;
 }
 
-/* Places the word in what surroundings have been made, and takes its step. */
-static void try_word(uint32_t word)
+/* Places the word in what surroundings have been made, and takes its step. Gives the kind of a division by zero that it completed, or 0. */
+static uint32_t try_word(uint32_t word)
 {
     uint32_t kind = em_read(word).kind;
     struct em_access access;
@@ -116,13 +117,14 @@ static void try_word(uint32_t word)
     now.name = kind ? em_name(kind) : "word";
     now.word = word;
     place_word(word);
-    uint32_t at_pc = kind_at_pc(), number = take_step(&access);
+    uint32_t at_pc = kind_at_pc(), by_zero = division_by_zero(&emulator), number = take_step(&access);
     tried[kind]++;
     completed[kind] += number == 0;
     if (number == 0)
         count_access(at_pc, access);
     if (number <= CC100_EXIT_STOP_CORES)
         ended[number]++;
+    return number == 0 ? by_zero : 0;
 }
 
 /* One kind with one pair of values and all its edges and registers. */
@@ -135,7 +137,7 @@ static void product_of(uint32_t kind, uint32_t first, uint32_t second)
         surroundings();
         set_state(&emulator, CC100_REGISTER(r[0]), r[0] ? edge_value(first) : 0);
         set_state(&emulator, CC100_REGISTER(r[1]), r[1] ? edge_value(second) : 0);
-        try_word(word_of(kind, r[0], r[1], rd, 0) | e->values[i % e->count]);
+        edges_by_zero[try_word(word_of(kind, r[0], r[1], rd, 0) | e->values[i % e->count])]++;
     }
 }
 
@@ -152,7 +154,7 @@ static void random_steps(void)
     for (uint64_t i = 0; i < (uint64_t)RANDOM_STEPS * rounds; i++) {
         uint32_t word = random_word_of(1 + below(KINDS));
         surroundings();
-        try_word(below(8) ? word : word ^ 1u << below(32));
+        random_by_zero[try_word(below(8) ? word : word ^ 1u << below(32))]++;
     }
 }
 
@@ -178,6 +180,10 @@ static void require_counts(void)
     now.name = "exit";
     for (now.word = CC100_EXIT_INTEGER_OVERFLOW; now.word <= CC100_EXIT_STOP_CORES; now.word++)
         at_least("steps that end in it", LEAST_OF_AN_EXIT, ended[now.word]);
+    now.name = "edge operands";
+    require_divisions(edges_by_zero, LEAST_COMPLETED);
+    now.name = "random registers";
+    require_divisions(random_by_zero, LEAST_COMPLETED);
     at_least("steps", 3000000, steps);
 }
 
@@ -191,6 +197,8 @@ void test_steps(void)
     random_steps();
     require_counts();
     end_part("%lu steps of 72 kinds, %lu completed; exits 40 to 52:%s; accesses carried: LB %lu, LBU %lu, LH %lu, LHU %lu, LW %lu, LL %lu, "
-             "SB %lu, SH %lu, SW %lu, SC %lu, SC that do not store %lu", steps, ended[0], listed(ended, 40, 52), carried[LB], carried[LBU],
-             carried[LH], carried[LHU], carried[LW], carried[LL], carried[SB], carried[SH], carried[SW], carried[SC], bare[SC]);
+             "SB %lu, SH %lu, SW %lu, SC %lu, SC that do not store %lu; DIV by zero %lu, DIVU %lu, with random registers %lu and %lu",
+             steps, ended[0], listed(ended, 40, 52), carried[LB], carried[LBU], carried[LH], carried[LHU], carried[LW], carried[LL],
+             carried[SB], carried[SH], carried[SW], carried[SC], bare[SC], edges_by_zero[DIV], edges_by_zero[DIVU], random_by_zero[DIV],
+             random_by_zero[DIVU]);
 }
