@@ -118,6 +118,7 @@ void test_instructions(void);
 void test_refusals(void);
 void test_exits(void);
 void test_step(void);
+void test_division(void);
 void test_accesses(void);
 void test_run(void);
 void test_resume(void);

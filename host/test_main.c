@@ -79,6 +79,7 @@ int main(int count, char **arguments)
     test_refusals();
     test_exits();
     test_step();
+    test_division();
     test_accesses();
     test_run();
     test_resume();
