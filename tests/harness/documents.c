@@ -1,6 +1,6 @@
 /* Document 01's own answers, written down from it by hand: its marked cases C1 to C12, and every example of its refusal table; and the accesses,
-   the straight-through modules and the divisions of tickets 1, 2 and 4 of document 02. The emulator is tried on them, as all else here trusts it, and the product
-   and plain C beside it. */
+   the straight-through modules and the divisions of tickets 1, 2 and 4 of document 02. The emulator is tried on them, as all else here trusts
+   it, and the product and plain C beside it. */
 #include <string.h>
 
 #include "harness.h"
