@@ -38,7 +38,7 @@ EMULATOR = $(wildcard tests/emulator/*.c)
 # The programs whose input and output are stored.
 STORED = vectors steps listing verdict
 # What is compiled here, without make.sh's qemu.c, which needs Unicorn.
-PROGRAM = $(addprefix tests/program/,run.c tables.c words.c compare.c figures.c)
+PROGRAM = $(addprefix tests/program/,run.c tables.c words.c compare.c figures.c averages.c)
 ROUNDS = 1
 
 # The command, and the same for its tests, which stops at the first thing that C leaves undefined.

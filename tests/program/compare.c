@@ -14,7 +14,7 @@ static const struct {
 } FIGURES[] = {
     FIGURE(checksum, 1), FIGURE(net_checksum, 1), FIGURE(total, 1), FIGURE(rebates, 1), FIGURE(tax, 1), FIGURE(greatest, 1),
     FIGURE(greatest_row, 1), FIGURE(returns, 1), FIGURE(sums, GROUPS), FIGURE(net, ROWS), FIGURE(rebate, ROWS),
-    FIGURE(total_text, TOTAL_TEXT),
+    FIGURE(of_bookings, ROWS), FIGURE(of_pieces, ROWS), FIGURE(no_average, ROWS), FIGURE(left_out, 1), FIGURE(total_text, TOTAL_TEXT),
 };
 
 static unsigned long compared, shown;
@@ -70,6 +70,7 @@ void print_figures(const struct input *in, const struct output *out)
            text + blanks, out->rebates, out->tax);
     for (int i = 0; i < GROUPS; i++)
         printf(" %" PRId32, out->sums[i]);
-    printf(", returns %" PRIu32 ", greatest %" PRId32 " in row %" PRIu32 ", CRC-32 %08" PRIx32 " and %08" PRIx32 "\n", out->returns,
-           out->greatest, out->greatest_row, out->checksum, out->net_checksum);
+    printf(", returns %" PRIu32 ", greatest %" PRId32 " in row %" PRIu32 ", averages left out %" PRIu32, out->returns, out->greatest,
+           out->greatest_row, out->left_out);
+    printf(", CRC-32 %08" PRIx32 " and %08" PRIx32 "\n", out->checksum, out->net_checksum);
 }

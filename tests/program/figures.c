@@ -1,5 +1,5 @@
-/* The figures of a report: checksums, amounts with rebates by tiers, sums, tax, and the total as text. Compiled from this one source for
-   the host and for CC100-C; it uses no library. */
+/* The figures of a report: checksums, amounts with rebates by tiers, sums, tax, averages, and the total as text. Compiled from this source and
+   averages.c for the host and for CC100-C; they use no library. */
 #include "figures.h"
 
 #define WHOLE 10000u /* a hundred percent, in hundredths of a percent */
@@ -115,6 +115,7 @@ void figures(const struct input *in, struct output *out)
     for (uint32_t i = 0; i < in->rows; i++)
         add_row(in, i, out);
     add_sums(out);
+    averages(in, out);
     write_amount(out->total_text, out->total);
     out->checksum = checksum(in->text, in->text_length);
     out->net_checksum = checksum((const uint8_t *)out->net, in->rows * 4);

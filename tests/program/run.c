@@ -13,12 +13,13 @@
 #define TABLES 4000u
 #define TABLES_OF_BOTH 40u
 #define BUDGET 1000000u /* far more than a table takes */
+#define LEAST_LEFT_OUT 10000u
 
 struct machine {
     uint8_t state[CC100_STATE_LENGTH], memory[MEMORY];
 };
 
-static uint64_t steps_taken;
+static uint64_t steps_taken, left_out;
 
 /* Gives how many of the code's words are none of the 72 instructions. */
 static unsigned unread_words(const struct program *p)
@@ -84,6 +85,7 @@ static unsigned run_table(const struct program *p, uint32_t number, uint32_t *se
     static struct machine m;
     make_table(number, seed, &in);
     native_figures(&in, &native);
+    left_out += native.left_out;
     start(&m, p, &in);
     struct em_access last;
     uint32_t end = run_in_slices(&m, 1 + number % 1000, &last);
@@ -112,7 +114,11 @@ int main(int count, char **arguments)
     unsigned different = unread_words(&p);
     for (uint32_t number = 0; number <= TABLES; number++)
         different += run_table(&p, number, &seed);
-    printf("program: %" PRIu32 " words, %u tables, %lu figures, %" PRIu64 " steps, %u differ\n", (p.code_end - START) / 4, TABLES + 1,
-           figures_compared(), steps_taken, different);
+    if (left_out < LEAST_LEFT_OUT) {
+        printf("DIFFERS only %" PRIu64 " averages are left out\n", left_out);
+        different++;
+    }
+    printf("program: %" PRIu32 " words, %u tables, %lu figures, %" PRIu64 " steps, %" PRIu64 " averages left out, %u differ\n",
+           (p.code_end - START) / 4, TABLES + 1, figures_compared(), steps_taken, left_out, different);
     return different != 0;
 }

@@ -28,6 +28,25 @@ static const struct row ROWS_FIXED[] = {
     {500000, -30, 1, 100, 3, SALE, 0},
 };
 
+/* Balance, bookings, turnover, pieces. Some counts are 0; some divisions by others have LO or HI as a zero divisor gives it, but not both. */
+static const struct totals TOTALS_FIXED[] = {
+    {123456789, 1234, 4000000000, 4321},
+    {0, 0, 0, 0},
+    {5, 0, 5, 0},
+    {-5, 0, 0xFFFFFFFF, 0},
+    {INT32_MIN, 0, 0x80000000, 0},
+    {0, 5, 0, 5},
+    {-5, 5, 0xFFFFFFFF, 1},
+    {1, -1, 0x80000000, 0xFFFFFFFF},
+    {INT32_MIN, -1, 0x80000000, 1},
+    {-3, 2, 3, 2},
+    {-1, 2, 1, 2},
+    {-7, 2, 0xFFFFFFFE, 0xFFFFFFFF},
+    {7, -2, 0xFFFFFFFF, 0xFFFFFFFF},
+    {INT32_MAX, INT32_MIN, 0x7FFFFFFF, 0x80000000},
+};
+_Static_assert(sizeof TOTALS_FIXED / sizeof *TOTALS_FIXED == sizeof ROWS_FIXED / sizeof *ROWS_FIXED, "each row has its totals");
+
 static uint32_t next_random(uint32_t *seed)
 {
     *seed ^= *seed << 13;
@@ -58,6 +77,28 @@ static void random_row(uint32_t *seed, struct row *r)
     r->kind = below(seed, 8) == 0 ? CREDIT : SALE;
 }
 
+/* Of any size and sign. */
+static uint32_t random_amount(uint32_t *seed)
+{
+    uint32_t size = next_random(seed);
+    size >>= below(seed, 32);
+    return below(seed, 2) ? size : 0u - size;
+}
+
+/* One count in four is 0. */
+static uint32_t random_count(uint32_t *seed)
+{
+    return below(seed, 4) ? random_amount(seed) : 0;
+}
+
+static void random_totals(uint32_t *seed, struct totals *t)
+{
+    t->balance = (int32_t)random_amount(seed);
+    t->bookings = (int32_t)random_count(seed);
+    t->turnover = random_amount(seed);
+    t->pieces = random_count(seed);
+}
+
 static void random_tiers(uint32_t *seed, struct tier *tiers)
 {
     uint32_t from = 0;
@@ -71,8 +112,10 @@ static void random_tiers(uint32_t *seed, struct tier *tiers)
 static void random_rows(uint32_t *seed, struct input *in)
 {
     in->rows = below(seed, ROWS + 1);
-    for (uint32_t i = 0; i < in->rows; i++)
+    for (uint32_t i = 0; i < in->rows; i++) {
         random_row(seed, &in->row[i]);
+        random_totals(seed, &in->totals[i]);
+    }
 }
 
 static void random_text(uint32_t *seed, struct input *in)
@@ -87,6 +130,7 @@ static void fixed_table(struct input *in)
     static const char TEXT_FIXED[] = "123456789"; /* its CRC-32 is published: cbf43926 */
     memcpy(in->tiers, TIERS_FIXED, sizeof TIERS_FIXED);
     memcpy(in->row, ROWS_FIXED, sizeof ROWS_FIXED);
+    memcpy(in->totals, TOTALS_FIXED, sizeof TOTALS_FIXED);
     in->rows = sizeof ROWS_FIXED / sizeof *ROWS_FIXED;
     memcpy(in->text, TEXT_FIXED, sizeof TEXT_FIXED - 1);
     in->text_length = sizeof TEXT_FIXED - 1;
