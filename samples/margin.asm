@@ -37,7 +37,7 @@ row:
 ; is smaller than the sales, and times 10 it always fits where they are at most 214748365. It has the sign of the total, so that each digit
 ; has the sign of the rate, and what is left at the end is cut off towards zero. The one quotient that does not fit, that of -2^31 by -1,
 ; ends in Trap by its product with 10.
-        TEQ     15, 0               ; a division by 0 would leave HI and LO as they were
+        TEQ     15, 0               ; a division by 0 would give LO -1 and HI the total
         DIV     8, 15
         MFLO    9
         MFHI    17

@@ -297,7 +297,7 @@ def test_same_values():
 WRITTEN = [
     (0x24050007, "addiu   $5,$0,7             | $5 = 0x00000007"),
     (0x24060000, "addiu   $6,$0,0             | $6 = 0x00000000"),
-    (0x00A6001A, "div     $0,$5,$6            | hi = 0x00000000, lo = 0x00000000"),  # by 0: both stay as they were
+    (0x00A6001A, "div     $0,$5,$6            | hi = 0x00000007, lo = 0xffffffff"),  # by 0: hi is $5, lo all ones (02, Ticket 4)
     (0x24000009, "addiu   $0,$0,9             |"),
     (0x30080000, "andi    $8,$0,0x0           | $8 = 0x00000000"),
     (0x011A4025, "or      $8,$8,$26           | $8 = 0x00020000"),
