@@ -11,7 +11,7 @@
 #define MEMORY_LENGTH 64
 #define AT 16
 #define SYSCALL 0x0000000Cu
-#define MARK 0x51A5D00Fu /* what a register holds before it is written */
+#define BEFORE 0x51A5D00Fu /* what a register holds before it is written */
 
 /* The divisions of register 5 by register 6. */
 static const struct division {
@@ -63,7 +63,7 @@ static void expect_told(const struct machine *m, uint32_t a, uint32_t b)
     expect_number("LO and HI are those of a zero divisor", b == 0, lo == 0xFFFFFFFF && hi == a);
 }
 
-/* One division by a step, in a slot, and by a run, with any mode and LL word; no resume is given for it. */
+/* One division by a step, and by a run in a slot in user mode with the LL word 1. No resume is given for it, since it is no exit. */
 static void divide(const struct division *d, uint32_t a, uint32_t b)
 {
     for (uint32_t in_slot = 0; in_slot < 2; in_slot++) {
@@ -108,7 +108,7 @@ static void divide_and_test(const struct division *d, uint32_t a, uint32_t b)
     for (uint32_t i = 0; i < COUNT(tests_it); i++)
         put_memory(&m, AT + 4 + 4 * i, tests_it[i]);
     for (uint32_t i = 7; i <= 10; i++)
-        put_state(&m, CC100_REGISTER(i), MARK);
+        put_state(&m, CC100_REGISTER(i), BEFORE);
     calling("%s, 0x%" PRIX32 " by 0x%" PRIX32 ", and a module's test", d->name, a, b);
     want_result(&m, r);
     want_state(&m, CC100_REGISTER(7), r.lo);
