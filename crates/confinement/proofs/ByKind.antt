@@ -142,9 +142,9 @@ module _ {k : Kind} {i : Instruction} {a : ℕ} {c : Special} {n : ℕ} where
   unfolding product
   multiplies p o = does o
 
-  divides : {x : ℕ} (d q r : ℕ) → On k i a c n → Obeys k i a c n (Ok (divided x d q r))
+  divides : (x d q r : ℕ) → On k i a c n → Obeys k i a c n (Ok (divided x d q r))
   unfolding divided
-  divides d q r o = one_of (eqb d 0) (does o) (does o)
+  divides x d q r o = one_of (eqb d 0) (does o) (does o)
 
   traps : (t : Bool) → On k i a c n → Idle k → Obeys k i a c n (trap_if t)
   unfolding trap_if
@@ -210,8 +210,8 @@ module _ (i : Instruction) (a b : ℕ) (c : Special) (n : ℕ) where
   multiply_obeys : (k : Multiply) → Obeys (K.Multiply k) i a c n (Ok (multiply_of k i.rd a b c.hi c.lo))
   multiply_obeys Mult = multiplies _ refl
   multiply_obeys Multu = multiplies _ refl
-  multiply_obeys Div = divides b _ _ refl
-  multiply_obeys Divu = divides b _ _ refl
+  multiply_obeys Div = divides a b _ _ refl
+  multiply_obeys Divu = divides a b _ _ refl
   multiply_obeys Mfhi = does (refl, refl)
   multiply_obeys Mthi = does refl
   multiply_obeys Mflo = does (refl, refl)
