@@ -1,93 +1,77 @@
 -- The theorems about a step that divides (document 02, Ticket 4): what it leaves, by 0 and by any other divisor, and that LO and HI, beside the dividend,
 -- tell the two apart.
-use Rattle.std.proofs.Common.{◌≡◌, ℕ, ◌+◌, ◌/◌, ◌%◌, ◌≤◌, ◌↔◌, List, length, None, Some, Ok, int_div, int_rem, sym, ap, ap₂, ◌∙◌}
-use Rattle.word.specs.Bytes.{load_of}
+use Rattle.std.proofs.Common.{◌≡◌, ℕ, ◌/◌, ◌%◌, ◌↔◌, List, Ok, int_div, int_rem, sym, ap, ap₂, ◌∙◌}
 use Rattle.word.specs.Number.{signed_of, wrap_of}
 use Rattle.isa.specs.declared.kind.Multiply.{Multiply}
 use Rattle.isa.specs.declared.kind.Multiply.TheVariants.{Div, Divu}
-use Rattle.isa.specs.declared.kind.Kind.TheVariants as K
 use Rattle.isa.specs.declared.kind.Instruction.{Instruction}
-use Rattle.isa.specs.Reading.{read_of}
 use Rattle.effect.specs.declared.effect.Effect.{Effect}
 use Rattle.effect.specs.declared.effect.Effect.TheVariants.{Pair}
 use Rattle.parts.specs.Parts.{advance_of, pair_of}
-use Rattle.arithmetic.specs.Arithmetic.{multiply_of, Divides}
+use Rattle.arithmetic.specs.Arithmetic.{multiply_of}
 use Rattle.arithmetic.proofs.Division.{by_zero, div_by_some, divu_by_some, told, Halves, divides_halves}
 use Rattle.decision.specs.Decision.{decision_of}
 use Rattle.machine.specs.declared.state.State.{State}
-use Rattle.machine.specs.State.{register_of, join_of, refusal_of, Typed}
-use Rattle.machine.specs.Step.{effect_of, effect_at, Outcome, stepped, tried_of, try_of, step_of}
+use Rattle.machine.specs.State.{register_of, join_of, Typed}
+use Rattle.machine.specs.Step.{effect_of, effect_at, tried_of, try_of, step_of}
+use Rattle.machine.specs.Division.{Division, sets}
 use Rattle.machine.proofs.Touches.{effect_is}
 
--- a step whose instruction divides: nothing refuses it, its four bytes are inside memory, and they read as DIV or DIVU
-pub record Division (s : State) (m : List ℕ) (i : Instruction) : Type 0 where
-  pub unrefused : refusal_of s (length m) ≡ 0
-  pub fetched : s.special.pc + 4 ≤ length m
-  pub reads : read_of (load_of 4 m s.special.pc) ≡ Some i
-  pub kind : Multiply
-  pub is : i.kind ≡ K.Multiply kind
-  pub divides : Divides kind
+module _ (s : State) (m : List ℕ) (i : Instruction) where
+  abbrev pub dividend : ℕ
+  dividend = register_of s.registers i.rs
 
-module _ (s : State) (m : List ℕ) where
-  -- a step that completes, advances PC and next PC and sets HI and LO; all else of the state, and memory, stay
-  abbrev pub sets : ℕ → ℕ → Outcome
-  sets h l = stepped 0 None (join_of s.registers (pair_of (advance_of s.special) h l)) m
+  abbrev pub divisor : ℕ
+  divisor = register_of s.registers i.rt
 
-  module _ (i : Instruction) where
-    abbrev pub dividend : ℕ
-    dividend = register_of s.registers i.rs
+  abbrev effect_by : Multiply → Effect
+  effect_by k = multiply_of k i.rd dividend divisor s.special.hi s.special.lo
 
-    abbrev pub divisor : ℕ
-    divisor = register_of s.registers i.rt
+  module _ (d : Division s m i) where
+    decided : effect_at s m ≡ Ok (effect_by d.kind)
+    unfolding effect_of decision_of
+    decided = rw (effect_is s m i d.fetched d.reads, d.is)
 
-    abbrev effect_by : Multiply → Effect
-    effect_by k = multiply_of k i.rd dividend divisor s.special.hi s.special.lo
+    step_is : step_of s m ≡ tried_of (Ok (effect_by d.kind)) s m
+    unfolding step_of try_of
+    step_is = rw (d.unrefused, decided)
 
-    module _ (d : Division s m i) where
-      decided : effect_at s m ≡ Ok (effect_by d.kind)
-      unfolding effect_of decision_of
-      decided = rw (effect_is s m i d.fetched d.reads, d.is)
+    step_sets : (h l : ℕ) → effect_by d.kind ≡ Pair h l → step_of s m ≡ sets s m h l
+    step_sets h l e = step_is ∙ ap (λ x. tried_of (Ok x) s m) e
 
-      step_is : step_of s m ≡ tried_of (Ok (effect_by d.kind)) s m
-      unfolding step_of try_of
-      step_is = rw (d.unrefused, decided)
+    by_nothing : divisor ≡ 0 → effect_by d.kind ≡ Pair dividend 0xFFFFFFFF
+    by_nothing z = rw z (by_zero d.kind d.divides i.rd dividend s.special.hi s.special.lo)
 
-      step_sets : (h l : ℕ) → effect_by d.kind ≡ Pair h l → step_of s m ≡ sets h l
-      step_sets h l e = step_is ∙ ap (λ x. tried_of (Ok x) s m) e
+    pub zero_divisor : divisor ≡ 0 → step_of s m ≡ sets s m dividend 0xFFFFFFFF
+    zero_divisor z = step_sets dividend 0xFFFFFFFF (by_nothing z)
 
-      by_nothing : divisor ≡ 0 → effect_by d.kind ≡ Pair dividend 0xFFFFFFFF
-      by_nothing z = rw z (by_zero d.kind d.divides i.rd dividend s.special.hi s.special.lo)
+    -- every other division: document 01's quotient and remainder
+    module _ (some : divisor ≡ 0 → ⊥) where
+      pub some_signed : d.kind ≡ Div → step_of s m ≡ sets s m (wrap_of 32 (int_rem (signed_of 32 dividend) (signed_of 32 divisor))) (wrap_of 32 (int_div (signed_of 32 dividend) (signed_of 32 divisor)))
+      some_signed e = step_sets _ _ (ap effect_by e ∙ div_by_some i.rd dividend divisor s.special.hi s.special.lo some)
 
-      pub zero_divisor : divisor ≡ 0 → step_of s m ≡ sets dividend 0xFFFFFFFF
-      zero_divisor z = step_sets dividend 0xFFFFFFFF (by_nothing z)
+      pub some_unsigned : d.kind ≡ Divu → step_of s m ≡ sets s m (dividend % divisor) (dividend / divisor)
+      some_unsigned e = step_sets _ _ (ap effect_by e ∙ divu_by_some i.rd dividend divisor s.special.hi s.special.lo some)
 
-      -- every other division: document 01's quotient and remainder
-      module _ (some : divisor ≡ 0 → ⊥) where
-        pub some_signed : d.kind ≡ Div → step_of s m ≡ sets (wrap_of 32 (int_rem (signed_of 32 dividend) (signed_of 32 divisor))) (wrap_of 32 (int_div (signed_of 32 dividend) (signed_of 32 divisor)))
-        some_signed e = step_sets _ _ (ap effect_by e ∙ div_by_some i.rd dividend divisor s.special.hi s.special.lo some)
+    -- ---- so LO and HI tell, beside the dividend in its register and with no look at the divisor, whether that was 0
 
-        pub some_unsigned : d.kind ≡ Divu → step_of s m ≡ sets (dividend % divisor) (dividend / divisor)
-        some_unsigned e = step_sets _ _ (ap effect_by e ∙ divu_by_some i.rd dividend divisor s.special.hi s.special.lo some)
+    pair : Halves (effect_by d.kind)
+    pair = divides_halves d.kind d.divides i.rd dividend divisor s.special.hi s.special.lo
 
-      -- ---- so LO and HI tell, beside the dividend in its register and with no look at the divisor, whether that was 0
+    -- the state after the step
+    abbrev pub after : State
+    after = (step_of s m).machine.state
 
-      pair : Halves (effect_by d.kind)
-      pair = divides_halves d.kind d.divides i.rd dividend divisor s.special.hi s.special.lo
+    after_is : after ≡ join_of s.registers (pair_of (advance_of s.special) pair.hi pair.lo)
+    after_is = ap (λ o. o.machine.state) (step_sets pair.hi pair.lo pair.is)
 
-      -- the state after the step
-      abbrev pub after : State
-      after = (step_of s m).machine.state
-
-      after_is : after ≡ join_of s.registers (pair_of (advance_of s.special) pair.hi pair.lo)
-      after_is = ap (λ o. o.machine.state) (step_sets pair.hi pair.lo pair.is)
-
-      pub zero_told : Typed s → (((after.special.lo ≡ 0xFFFFFFFF) × (after.special.hi ≡ register_of after.registers i.rs)) ↔ (divisor ≡ 0))
-      zero_told t = (
-        λ (l, h).
-            let lo : pair.lo ≡ 0xFFFFFFFF = ap (λ x. x.special.lo) (sym after_is) ∙ l in
-            let hi : pair.hi ≡ dividend = ap (λ x. x.special.hi) (sym after_is) ∙ h ∙ ap (λ x. register_of x.registers i.rs) after_is in
-            told i.rd dividend divisor s.special.hi s.special.lo (t.registers i.rs) (t.registers i.rt) d.kind d.divides (pair.is ∙ ap₂ Pair hi lo),
-        λ z.
-            let e : after ≡ (sets dividend 0xFFFFFFFF).machine.state = ap (λ o. o.machine.state) (zero_divisor z) in
-            (ap (λ x. x.special.lo) e, ap (λ x. x.special.hi) e ∙ sym (ap (λ x. register_of x.registers i.rs) e)),
-      )
+    pub zero_told : Typed s → (((after.special.lo ≡ 0xFFFFFFFF) × (after.special.hi ≡ register_of after.registers i.rs)) ↔ (divisor ≡ 0))
+    zero_told t = (
+      λ (l, h).
+          let lo : pair.lo ≡ 0xFFFFFFFF = ap (λ x. x.special.lo) (sym after_is) ∙ l in
+          let hi : pair.hi ≡ dividend = ap (λ x. x.special.hi) (sym after_is) ∙ h ∙ ap (λ x. register_of x.registers i.rs) after_is in
+          told i.rd dividend divisor s.special.hi s.special.lo (t.registers i.rs) (t.registers i.rt) d.kind d.divides (pair.is ∙ ap₂ Pair hi lo),
+      λ z.
+          let e : after ≡ (sets s m dividend 0xFFFFFFFF).machine.state = ap (λ o. o.machine.state) (zero_divisor z) in
+          (ap (λ x. x.special.lo) e, ap (λ x. x.special.hi) e ∙ sym (ap (λ x. register_of x.registers i.rs) e)),
+    )

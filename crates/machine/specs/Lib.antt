@@ -3,3 +3,4 @@ pub mod Apply
 pub mod Step
 pub mod Run
 pub mod Resume
+pub mod Division

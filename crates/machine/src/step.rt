@@ -38,8 +38,9 @@ pub(crate) fn effect_at(c: Special, registers: &[u32; 32], memory: &[u8]) -> Res
     Exit::Fetch.when(n < at + 4)?;
     let w = word::bytes::load::<4>(memory, at);
     let i = reader::read(w).ok_or(Exit::NoInstruction)?;
-    let a = register(registers, i.rs);
+    // b first: a run takes 1.06 to 1.13 times the time with a first, as the compiled code lies otherwise (docs/DECISIONS.md, Pages).
     let b = register(registers, i.rt);
+    let a = register(registers, i.rs);
     decision::decide(i, a, b, c, n)
 }
 
