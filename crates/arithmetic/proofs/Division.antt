@@ -1,6 +1,6 @@
 -- The theorems about a division (document 02, Ticket 4): what a zero divisor leaves, what every other leaves, and that LO and HI, beside the dividend,
 -- tell the two apart.
-use Rattle.std.proofs.Common.{◌≡◌, ℕ, zero, suc, ◌-◌, ◌/◌, ◌%◌, ◌^◌, ◌<◌, ◌≤◌, ℤ, pos, negsuc, neg_ℤ, nat_abs, int_div, int_rem, refl, sym, ◌∙◌, inl, inr, ⊎_elim, mod-lt, arith, ne_eqb, eq-zero-or-pos, ne_of_gt, eqb}
+use Rattle.std.proofs.Common.{◌≡◌, ℕ, zero, suc, ◌-◌, ◌/◌, ◌%◌, ◌^◌, ◌<◌, ◌≤◌, ℤ, pos, negsuc, neg_ℤ, nat_abs, int_div, int_rem, refl, sym, subst, ◌∙◌, inl, inr, ⊎_elim, mod-lt, arith, ne_eqb, eq-zero-or-pos, ne_of_gt, eqb}
 use native.Mathlib.Nat.{mod-le, div-eq_of_lt}
 use Rattle.std.proofs.lemmas.Bool.{cases_lt}
 use Rattle.word.proofs.Choice.{by_test}
@@ -57,14 +57,19 @@ quotient_word (pos n) (negsuc d) e = rw e
 quotient_word (negsuc n) (pos d) e = rw e
 quotient_word (negsuc n) (negsuc d) e = rw e
 
+-- the signed integer of a word, by its top bit
+by_top : (P : ℤ → Type 0) (a : ℕ) → Word a → (a < 2 ^ 31 → P (pos a)) → (2 ^ 31 ≤ a → P (negsuc (2 ^ 32 - suc a))) → P (signed_of 32 a)
+by_top P a h p q =
+    ⊎_elim (λ l. subst P (sym (signed_low 32 a l)) (p l)) (λ l. subst P (sym (signed_high 32 a l h)) (q l)) (cases_lt a (2 ^ 31))
+
 signed_magnitude : (a : ℕ) → Word a → nat_abs (signed_of 32 a) ≤ 2 ^ 31
-signed_magnitude a h = ⊎_elim (λ l. rw (signed_low 32 a l) (omega arith)) (λ l. rw (signed_high 32 a l h) (omega arith)) (cases_lt a (2 ^ 31))
+signed_magnitude a h = by_top (λ z. nat_abs z ≤ 2 ^ 31) a h (λ l. omega arith) (λ l. omega arith)
 
 signed_some : (b : ℕ) → Word b → 0 < b → 0 < nat_abs (signed_of 32 b)
-signed_some b h p = ⊎_elim (λ l. rw (signed_low 32 b l) p) (λ l. rw (signed_high 32 b l h) (omega arith)) (cases_lt b (2 ^ 31))
+signed_some b h p = by_top (λ z. 0 < nat_abs z) b h (λ l. p) (λ l. omega arith)
 
 signed_again : (a : ℕ) → Word a → wrap_of 32 (signed_of 32 a) ≡ a
-signed_again a h = ⊎_elim (λ l. rw (signed_low 32 a l) (omega arith)) (λ l. rw (signed_high 32 a l h) (omega arith)) (cases_lt a (2 ^ 31))
+signed_again a h = by_top (λ z. wrap_of 32 z ≡ a) a h (λ l. omega arith) (λ l. omega arith)
 
 -- ---- and so LO and HI, beside the dividend, tell whether the divisor was 0
 
