@@ -6,3 +6,4 @@ pub mod Reflection
 pub mod Whole
 pub mod Examples
 pub mod Verdicts
+pub mod Guarded

@@ -34,9 +34,8 @@ use Rattle.view.specs.declared.View.{View}
 use Rattle.view.specs.View.{is_barred, is_relative, is_region, is_register, seen, view_of, word_view, passes, is_branch, is_jump, needs_guard}
 use Rattle.view.specs.Guard as G
 use Rattle.view.specs.Guard.{is_mask, is_merge, value_in, is_mask_of, mask_in, is_merge_of}
-use Rattle.checker.specs.declared.verdict.Verdict.{Verdict}
 use Rattle.rules.specs.Rules as C
-use Rattle.checker.specs.Check.{is_word_broken, is_file_broken, is_broken}
+use Rattle.checker.specs.Check.{Trial, is_word_broken, is_file_broken, is_broken}
 use Rattle.checker.specs.Lawful as L
 use Rattle.rules.specs.Not.{Not}
 use Rattle.checker.specs.Lawful.{Stands, flow_of}
@@ -151,7 +150,7 @@ registers Relative = fails (other is_register refl refl)
 registers Region = fails (other is_register refl refl)
 registers Register = holds refl
 
-accesses : (w : Option Width) → Says (Not (bytes_of w ≡ 0)) (is_some w)
+pub accesses : (w : Option Width) → Says (Not (bytes_of w ≡ 0)) (is_some w)
 accesses None = fails (λ h. h refl)
 accesses (Some Byte) = holds (λ e. omega (arith, e))
 accesses (Some Half) = holds (λ e. omega (arith, e))
@@ -245,7 +244,7 @@ module _ (img : List ℕ) (i : ℕ) where
 
 -- ---- guards
 
-fits_data_law : (size m : ℕ) (z : ℤ) (w : ℕ) → Says (L.FitsData size m z w) (C.fits_data size m z w)
+pub fits_data_law : (size m : ℕ) (z : ℤ) (w : ℕ) → Says (L.FitsData size m z w) (C.fits_data size m z w)
 unfolding C.fits_data
 fits_data_law size m (pos o) w = saying (λ h. (o, (refl, h))) from (ands (eqs _ _) (ands (eqs _ _) (les _ _)))
   where
@@ -275,32 +274,44 @@ module _ (img : List ℕ) (i r : ℕ) where
       some_reading _ (G.merges base r) refl (reading_at img i)
       (λ x e. ands (merges x.kind) (ands (eqs _ _) (ands (eqs _ _) (eqs _ _))))
 
--- a guard of base register r whose mask is as Q asks
-module _ (img : List ℕ) (i base r : ℕ) (Q : ℕ → Type 0) (t : ℕ → Bool) (q : (m : ℕ) → Says (Q m) (t m)) where
-  -- Guarded of Lawful, but for the bundle
-  abbrev Pair : ℕ → Type 0
-  Pair m = (L.Masks img (i - 2) r m × L.Merges img (i - 1) r base) × (Not (r ≡ 0) × (Not (r ≡ 26) × Not (r ≡ 27)))
+module _ (img : List ℕ) (i base r : ℕ) where
+  -- a guard has one mask
+  pub only_mask : {m : ℕ} → L.Guarded img i r base m → m ≡ C.mask_at img i
+  only_mask g = mask_value img (i - 2) r g.1.0.0
 
-  pairs : Says ((m : ℕ) × (Pair m × Q m)) (C.is_guarded_at img i base r && t (C.mask_at img i))
+  guarded_at : Says (L.Guarded img i r base (C.mask_at img i)) (C.has_guard img i base r)
   unfolding C.is_guarded
-  pairs =
-      saying (λ g. (C.mask_at img i, (((g.0.0, g.0.1.0), g.0.1.1), g.1)))
-      (λ g. let e = mask_value img (i - 2) r g.1.0.0.0 in
-      ((rw e at g.1.0.0.0, (g.1.0.0.1, g.1.0.1)), rw e at g.1.1))
-      (ands (ands (masks_at img (i - 2) r) (ands (merges_at img (i - 1) r base)
-      (ands (nots (eqs _ _)) (ands (nots (eqs _ _)) (nots (eqs _ _)))))) (q _))
+  guarded_at =
+      ands (les 2 (i % 4))
+      (saying (λ g. ((g.0, g.1.0), g.1.1)) (λ g. (g.0.0, (g.0.1, g.1)))
+      (ands (masks_at img (i - 2) r) (ands (merges_at img (i - 1) r base)
+      (ands (nots (eqs _ _)) (ands (nots (eqs _ _)) (nots (eqs _ _)))))))
 
-  guards : Says ((m : ℕ) × (L.Guarded img i r base m × Q m)) (C.in_bundle i && (C.is_guarded_at img i base r && t (C.mask_at img i)))
-  guards =
-      saying (λ g. (g.1.0, ((g.0, g.1.1.0), g.1.1.1))) (λ g. (g.1.0.0, (g.0, (g.1.0.1, g.1.1))))
-      (ands (les 2 (i % 4)) pairs)
+  -- whatever the mask
+  pub guarded : Says ((m : ℕ) × L.Guarded img i r base m) (C.has_guard img i base r)
+  guarded = saying (λ g. (C.mask_at img i, g)) (λ g. let e = only_mask g.1 in rw e at g.1) guarded_at
+
+  -- with a mask as Q asks
+  module _ (Q : ℕ → Type 0) (t : ℕ → Bool) (q : (m : ℕ) → Says (Q m) (t m)) where
+    pub guards : Says ((m : ℕ) × (L.Guarded img i r base m × Q m)) (C.has_guard img i base r && t (C.mask_at img i))
+    guards = saying (λ g. (C.mask_at img i, g)) (λ g. let e = only_mask g.1.0 in rw e at g.1) (ands guarded_at (q _))
+
+    fitting : Denies ((m : ℕ) → L.Guarded img i r base m → Q m) (C.has_guard img i base r && not (t (C.mask_at img i)))
+    fitting =
+        denying (λ f m g. let e = only_mask g in subst Q (sym e) (f (rw e at g))) (λ f. f (C.mask_at img i))
+        (imps guarded_at (lacks (q _)))
+
+pub rule12 : (img : List ℕ) (i : ℕ) → Denies (L.Rule12 img i) (passes (C.broken12 img i) (C.view_at img i))
+unfolding seen C.broken12
+rule12 img i =
+    every_word img i _ (C.broken12 img i) (λ x. imps (accesses (width_accessed x.kind)) (lacks (guarded img i 26 x.rs)))
 
 module _ (l : Layout) (img : List ℕ) (i : ℕ) where
-  rule12 : Denies (L.Rule12 l img i) (passes (C.broken12 l.data_size img i) (C.view_at img i))
-  unfolding seen C.broken12
-  rule12 =
-      every_word img i _ (C.broken12 l.data_size img i)
-      (λ x. imps (accesses (width_accessed x.kind)) (lacks (guards img i 26 x.rs _ _ (λ m. fits_data_law _ m _ _))))
+  pub rule22 : Denies (L.Rule22 l img i) (passes (C.broken22 l.data_size img i) (C.view_at img i))
+  unfolding seen C.broken22
+  rule22 =
+      every_word img i _ (C.broken22 l.data_size img i)
+      (λ x. imps (accesses (width_accessed x.kind)) (fitting img i 26 x.rs _ _ (λ m. fits_data_law _ m _ _)))
 
   rule13 : Denies (L.Rule13 l img i) (passes (C.broken13 l.code_size img i) (C.view_at img i))
   unfolding seen C.broken13
@@ -337,11 +348,12 @@ module _ (l : Layout) (img : List ℕ) (i : ℕ) where
       (picks (eqb n 9) (rule9 img i)
       (picks (eqb n 10) (rule10 img i)
       (picks (eqb n 11) (rule11 img i)
-      (picks (eqb n 12) rule12
+      (picks (eqb n 12) (rule12 img i)
+      (picks (eqb n 22) rule22
       (picks (eqb n 13) rule13
       (picks (eqb n 14) (rule14 img i)
       (picks (eqb n 15) rule15
-      (picks (eqb n 16) (rule16 img i) (keeps tt)))))))))
+      (picks (eqb n 16) (rule16 img i) (keeps tt))))))))))
 
-pub rule_tests : (l : Layout) (len : ℕ) (img : List ℕ) (t : Verdict) → Denies (Keeps l len img t) (is_broken l len img t)
-rule_tests l len img t = picks (leb t.number 7) (file_rules l len img t.number) (word_rules l img t.place t.number)
+pub rule_tests : (l : Layout) (len : ℕ) (img : List ℕ) (t : Trial) → Denies (Keeps l len img t) (is_broken l len img t)
+rule_tests l len img t = picks (leb t.number 7) (file_rules l len img t.number) (word_rules l img t.word t.number)

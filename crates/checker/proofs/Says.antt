@@ -1,7 +1,7 @@
 -- Tests and what they say, a law for each connective.
 use Prim.Native.Nat.{ℕ, ◌≤◌, ◌<◌}
 use mathlib.Core.Path.{◌≡◌, refl, subst}
-use mathlib.Core.Bool.{Bool, true, false, not, cond, ◌&&◌, ◌||◌}
+use mathlib.Core.Bool.{Bool, true, false, not, cond, ◌&&◌, ◌||◌, false≢true}
 use mathlib.Core.Logic.{◌⊎◌, inl, inr, ⊎_elim}
 use native.Mathlib.Omega.{arith}
 use lib.Dec.{eqb, leb, ltb}
@@ -109,6 +109,10 @@ passes (keeps p) h = refl
 pub stops : {P : Type 0} {a : Bool} → Denies P a → Not P → a ≡ true
 stops (breaks p) h = refl
 stops (keeps p) h = absurd (h p)
+
+pub held : {P : Type 0} {a : Bool} → Says P a → a ≡ true → P
+held (holds p) e = p
+held (fails p) e = absurd (false≢true e)
 
 -- ---- tests on what a word reads as
 

@@ -18,14 +18,15 @@ use Rattle.view.specs.View.{word_view, passes, is_relative, is_region, is_branch
 use Rattle.quick.specs.Plain.{PlainWord}
 use Rattle.refusal.specs.declared.Refusal.{Refusal}
 use Rattle.refusal.specs.Refusal.{number_of, refused_number, refused_when}
+use Rattle.refusal.proofs.Numbers.{number_some}
 use Rattle.word.proofs.Choice.{both, by_test, by_zero}
 use Rattle.checker.specs.declared.verdict.Verdict.{Verdict}
-use Rattle.rules.specs.Rules.{Sized, word_at, view_at, view_before, broken10, broken11, broken12, broken13, broken14, broken15}
+use Rattle.rules.specs.Rules.{Sized, word_at, view_at, view_before, broken10, broken11, broken12, broken22, broken13, broken14, broken15}
 use Rattle.checker.specs.Scan.{file_refusal, word_refusal, number_of_branch, number_of_word, SaysBranch, number_at, first_word, end_verdict, words_verdict, image_verdict, words_by}
-use Rattle.checker.specs.Check.{verdict, no_place, trials_at, trials_after, in_turn, trials_by, is_word_broken, is_file_broken, broken_by, first_of, check_of, code_of, placed_of}
+use Rattle.checker.specs.Check.{Trial, trial, verdict, said, no_place, trials_at, trials_after, in_turn, trials_by, is_word_broken, is_file_broken, broken_by, first_of, check_of, code_of, placed_of}
 use Rattle.checker.specs.Refusal.{All}
 use Rattle.rules.specs.Not.{Not}
-use Rattle.checker.proofs.Numbers.{not_zero, unbroken}
+use Rattle.checker.proofs.Numbers.{unbroken}
 use Rattle.checker.proofs.Trials.{implied, of_words}
 
 -- ---- the word before
@@ -48,27 +49,28 @@ module _ (img : List ℕ) where
 abbrev pub given : (ℕ → Verdict) → Verdict → ℕ → Verdict
 given t x k = cond (eqb k 0) x (t k)
 
-pub ladder : (t : ℕ → Verdict) (x : Verdict) (a b c d e f g h : Bool)
-    → cond a (t 8) (cond b (t 9) (cond c (t 10) (cond d (t 11) (cond e (t 12) (cond f (t 13) (cond g (t 14) (cond h (t 15) x)))))))
-    ≡ given t x (cond a 8 (cond b 9 (cond c 10 (cond d 11 (cond e 12 (cond f 13 (cond g 14 (cond h 15 0))))))))
-ladder t x true b c d e f g h = refl
-ladder t x false true c d e f g h = refl
-ladder t x false false true d e f g h = refl
-ladder t x false false false true e f g h = refl
-ladder t x false false false false true f g h = refl
-ladder t x false false false false false true g h = refl
-ladder t x false false false false false false true h = refl
-ladder t x false false false false false false false true = refl
-ladder t x false false false false false false false false = refl
+pub ladder : (t : ℕ → Verdict) (x : Verdict) (a b c d e f g h i : Bool)
+    → cond a (t 8) (cond b (t 9) (cond c (t 10) (cond d (t 11) (cond e (t 12) (cond f (t 22) (cond g (t 13) (cond h (t 14) (cond i (t 15) x))))))))
+    ≡ given t x (cond a 8 (cond b 9 (cond c 10 (cond d 11 (cond e 12 (cond f 22 (cond g 13 (cond h 14 (cond i 15 0)))))))))
+ladder t x true b c d e f g h i = refl
+ladder t x false true c d e f g h i = refl
+ladder t x false false true d e f g h i = refl
+ladder t x false false false true e f g h i = refl
+ladder t x false false false false true f g h i = refl
+ladder t x false false false false false true g h i = refl
+ladder t x false false false false false false true h i = refl
+ladder t x false false false false false false false true i = refl
+ladder t x false false false false false false false false true = refl
+ladder t x false false false false false false false false false = refl
 
 -- ---- the loop of the code, whatever number a word has: i of n words are done
 
 module _ (number : ℕ → ℕ) (end : Verdict) (i n : ℕ) where
   module _ (h : i < n) where
-    more : first_word number end (n - i) i ≡ cond (eqb (number i) 0) (first_word number end (n - (i + 1)) (i + 1)) (verdict (number i) i)
+    more : first_word number end (n - i) i ≡ cond (eqb (number i) 0) (first_word number end (n - (i + 1)) (i + 1)) (said (trial (number i) i))
     more = let z : n - i ≡ suc (n - (i + 1)) = omega arith in rw (z, add-one i)
 
-    pub turn_stop : {k : ℕ} → Not (k ≡ 0) → k ≡ number i → verdict k i ≡ first_word number end (n - i) i
+    pub turn_stop : {k : ℕ} → Not (k ≡ 0) → k ≡ number i → said (trial k i) ≡ first_word number end (n - i) i
     turn_stop {k} z e = sym (more ∙ (rw (← e, ne_eqb k 0 z)))
 
     pub turn_go : 0 ≡ number i → first_word number end (n - (i + 1)) (i + 1) ≡ first_word number end (n - i) i
@@ -88,7 +90,7 @@ module _ (b : Layout → ℕ → View → ℕ) (w : Layout → List ℕ → ℕ)
 
   module _ (i : ℕ) (e : length img ≡ l.code_size) where
     module _ (h : i < length img / 4) {after : Bool} (q : after ≡ passes is_branch (view_before img i)) where
-      pub stopped : {k : ℕ} → Not (k ≡ 0) → k ≡ number_of_word b l img i after (view_at img i) → verdict k i ≡ rest i
+      pub stopped : {k : ℕ} → Not (k ≡ 0) → k ≡ number_of_word b l img i after (view_at img i) → said (trial k i) ≡ rest i
       stopped z f = turn_stop (number_at b l img) _ i (l.code_size / 4) (omega (arith, h, e)) z (f ∙ ap (λ (a : Bool). number_of_word b l img i a (view_at img i)) q)
 
       pub gone : {r : Result Bool Refusal} {x : Bool} → r ≡ Ok x → refused_number r ≡ number_of_word b l img i after (view_at img i) → rest (i + 1) ≡ rest i
@@ -107,21 +109,21 @@ is_last_jump img i p q = q ∙ ap (λ (k : ℕ). passes is_jump (word_view k)) p
 
 -- ---- the numbers of words are those of their trials
 
-module _ (word : ℕ → ℕ → Bool) (at after : ℕ → List Verdict) where
-  abbrev first : List Verdict → Verdict
-  first ts = first_of (λ (t : Verdict). word t.number t.place) ts
+module _ (word : ℕ → ℕ → Bool) (at after : ℕ → List Trial) where
+  abbrev first : List Trial → Verdict
+  first ts = first_of (λ (t : Trial). word t.number t.word) ts
 
   -- word i gives number k, 0 where it breaks nothing
   abbrev pub Gives : ℕ → ℕ → Type 0
-  Gives i k = (ts : List Verdict) → first (at i ++ ts) ≡ given (λ (j : ℕ). verdict j i) (first ts) k
+  Gives i k = (ts : List Trial) → first (at i ++ ts) ≡ given (λ (j : ℕ). said (trial j i)) (first ts) k
 
   module _ (i n k : ℕ) (g : Gives i k) (h : i < n) where
-    tried : words_by word at after (n - i) i ≡ given (λ (j : ℕ). verdict j i) (words_by word at after (n - (i + 1)) (i + 1)) k
+    tried : words_by word at after (n - i) i ≡ given (λ (j : ℕ). said (trial j i)) (words_by word at after (n - (i + 1)) (i + 1)) k
     tried =
         let z : n - i ≡ suc (n - (i + 1)) = omega arith in
         rw (z, add-one i) (g (in_turn at after (n - suc i) (suc i)))
 
-    pub scan_stop : Not (k ≡ 0) → verdict k i ≡ words_by word at after (n - i) i
+    pub scan_stop : Not (k ≡ 0) → said (trial k i) ≡ words_by word at after (n - i) i
     scan_stop z = sym (tried ∙ (rw (ne_eqb k 0 z)))
 
     pub scan_go : k ≡ 0 → words_by word at after (n - (i + 1)) (i + 1) ≡ words_by word at after (n - i) i
@@ -138,32 +140,33 @@ module _ (word : ℕ → ℕ → Bool) (at after : ℕ → List Verdict) where
   turned number end g zero i e = let z : i + 0 ≡ i = omega arith in sym (rw z at e)
   turned number end g (suc n) i e =
       let z : i + suc n ≡ suc i + n = omega arith in
-      ap (λ (x : Verdict). cond (eqb (number i) 0) x (verdict (number i) i)) (turned number end g n (suc i) (rw z at e))
+      ap (λ (x : Verdict). cond (eqb (number i) 0) x (said (trial (number i) i))) (turned number end g n (suc i) (rw z at e))
       ∙ sym (g i (in_turn at after n (suc i)))
 
 -- ---- the words of the checker
 
--- the trials 8 to 15 of what a word is seen as, and the number that they give
+-- the trials 8 to 15 and 22 of what a word is seen as, and the number that they give
 pub seen_ladder : (t : ℕ → Verdict) (x : Verdict) (l : Layout) (img : List ℕ) (i : ℕ) (after : Bool) (o : Option View)
     → cond (not (passes (λ v. true) o)) (t 8)
     (cond (passes (λ v. v.barred) o) (t 9)
     (cond (passes broken10 o) (t 10)
     (cond (passes broken11 o) (t 11)
-    (cond (passes (broken12 l.data_size img i) o) (t 12)
+    (cond (passes (broken12 img i) o) (t 12)
+    (cond (passes (broken22 l.data_size img i) o) (t 22)
     (cond (passes (broken13 l.code_size img i) o) (t 13)
     (cond (passes (broken14 after) o) (t 14)
-    (cond (passes (broken15 l img i) o) (t 15) x)))))))
+    (cond (passes (broken15 l img i) o) (t 15) x))))))))
     ≡ given t x (word_refusal l img i after o)
 unfolding word_refusal
 seen_ladder t x l img i after None = refl
 seen_ladder t x l img i after (Some v) =
-    ladder t x false v.barred (broken10 v) (broken11 v) (broken12 l.data_size img i v) (broken13 l.code_size img i v) (broken14 after v) (broken15 l img i v)
+    ladder t x false v.barred (broken10 v) (broken11 v) (broken12 img i v) (broken22 l.data_size img i v) (broken13 l.code_size img i v) (broken14 after v) (broken15 l img i v)
 
 module _ (l : Layout) (img : List ℕ) where
   word_first : (i : ℕ) → Gives (is_word_broken l img) trials_at trials_after i (word_refusal l img i (passes is_branch (view_before img i)) (view_at img i))
   unfolding is_word_broken
   word_first i ts =
-      seen_ladder (λ (k : ℕ). verdict k i) (first_of (λ (t : Verdict). is_word_broken l img t.number t.place) ts) l img i
+      seen_ladder (λ (k : ℕ). said (trial k i)) (first_of (λ (t : Trial). is_word_broken l img t.number t.word) ts) l img i
       (passes is_branch (view_before img i)) (view_at img i)
 
   -- with no rule of branches beside them
@@ -176,9 +179,9 @@ module _ (l : Layout) (img : List ℕ) where
 
   basic_gives : (i : ℕ) → Gives (is_word_broken l img) trials_at trials_after i (number_at (λ _ _ _. 0) l img i)
   unfolding number_of_word
-  basic_gives i = subst (Gives (is_word_broken l img) trials_at trials_after i) (none_more _ i (view_at img i)) (word_first i)
+  basic_gives i = subst (Gives (is_word_broken l img) trials_at trials_after i) (none_more (word_refusal l img i (passes is_branch (view_before img i)) (view_at img i)) i (view_at img i)) (word_first i)
 
-  basic_ended : (n : ℕ) → first_of (λ (t : Verdict). is_word_broken l img t.number t.place) (trials_after n) ≡ end_verdict (λ _ _. 0) l img n
+  basic_ended : (n : ℕ) → first_of (λ (t : Trial). is_word_broken l img t.number t.word) (trials_after n) ≡ end_verdict (λ _ _. 0) l img n
   unfolding is_word_broken
   basic_ended n = refl
 
@@ -205,7 +208,7 @@ plain_none (Some v) h =
 
 module _ (of_branch : Layout → ℕ → View → ℕ) (l : Layout) (img : List ℕ) (i : ℕ) (after : Bool) where
   plain_zero : (o : Option View) → passes is_plain o ≡ true → 0 ≡ number_of_word of_branch l img i after o
-  unfolding number_of_word word_refusal broken10 broken11 broken12 broken13 broken14 broken15
+  unfolding number_of_word word_refusal broken10 broken11 broken12 broken22 broken13 broken14 broken15
   plain_zero None h = absurd (false≢true h)
   plain_zero (Some v) h =
       let b = both (not v.barred) _ h in
@@ -249,15 +252,15 @@ image_ladder t x k true false h = refl
 image_ladder t x k false e h = rw h
 
 -- tests that agree on all trials find the same
-first_same : (b c : Verdict → Bool) (ts : List Verdict) → All (λ t. b t ≡ c t) ts → first_of b ts ≡ first_of c ts
+first_same : (b c : Trial → Bool) (ts : List Trial) → All (λ t. b t ≡ c t) ts → first_of b ts ≡ first_of c ts
 first_same b c [] h = refl
-first_same b c (t ∷ ts) h = rw h.0 (ap (λ (v : Verdict). cond (c t) t v) (first_same b c ts h.1))
+first_same b c (t ∷ ts) h = rw h.0 (ap (λ (v : Verdict). cond (c t) (said t) v) (first_same b c ts h.1))
 
 -- a trial of the words, and not of layout and image
-abbrev pub OfWords : Verdict → Type 0
+abbrev pub OfWords : Trial → Type 0
 OfWords t = 7 < t.number
 
-module _ (word : ℕ → ℕ → Bool) (at after : ℕ → List Verdict) (l : Layout) (len : ℕ) (img : List ℕ) where
+module _ (word : ℕ → ℕ → Bool) (at after : ℕ → List Trial) (l : Layout) (len : ℕ) (img : List ℕ) where
   file_first : first_of (broken_by word l len img) (trials_by at after l)
       ≡ given (λ (k : ℕ). verdict k no_place) (first_of (broken_by word l len img) (in_turn at after (l.code_size / 4) 0)) (file_refusal l len img)
   unfolding is_file_broken layout_refusal file_refusal
@@ -269,10 +272,10 @@ module _ (word : ℕ → ℕ → Bool) (at after : ℕ → List Verdict) (l : La
       ∙ image_ladder t x (layout_refusal l len) _ e refl
 
   -- the rules of words do not hang on the memory's length
-  words_same : (ts : List Verdict) → All OfWords ts → first_of (broken_by word l len img) ts ≡ first_of (λ (t : Verdict). word t.number t.place) ts
+  words_same : (ts : List Trial) → All OfWords ts → first_of (broken_by word l len img) ts ≡ first_of (λ (t : Trial). word t.number t.word) ts
   words_same ts h =
       first_same _ _ ts
-      (implied OfWords (λ t. broken_by word l len img t ≡ word t.number t.place) (λ t p. rw (lt-leb t.number 7 p)) ts h)
+      (implied OfWords (λ t. broken_by word l len img t ≡ word t.number t.word) (λ t p. rw (lt-leb t.number 7 p)) ts h)
 
   module _ {r : ℕ} (e : r ≡ file_refusal l len img) where
     pub file_refused : Not (r ≡ 0) → verdict r no_place ≡ first_of (broken_by word l len img) (trials_by at after l)
@@ -337,7 +340,7 @@ module _ (l : Layout) (len : ℕ) (img : List ℕ) where
   pub layout_refused : (r : Refusal) → number_of r ≡ layout_refusal l len → verdict (number_of r) no_place ≡ check_of l len img
   unfolding file_refusal check_of
   layout_refused r e =
-      file_refused (is_word_broken l img) trials_at trials_after l len img (rw (← e, ne_eqb (number_of r) 0 (not_zero r))) (not_zero r)
+      file_refused (is_word_broken l img) trials_at trials_after l len img (rw (← e, ne_eqb (number_of r) 0 (number_some r))) (number_some r)
 
 -- ---- the code area of a memory
 

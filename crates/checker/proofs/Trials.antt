@@ -7,7 +7,7 @@ use native.Mathlib.Omega.{arith}
 use native.Mathlib.Decide.{dec_lt}
 use Rattle.word.proofs.Choice.{by_test}
 use Rattle.checker.specs.declared.verdict.Verdict.{Verdict}
-use Rattle.checker.specs.Check.{accepted, in_turn, first_of}
+use Rattle.checker.specs.Check.{Trial, said, accepted, in_turn, first_of}
 use Rattle.checker.specs.Refusal.{All}
 
 module _ {A : Type 0} (P : A → Type 0) where
@@ -23,7 +23,7 @@ module _ {A : Type 0} (P : A → Type 0) where
   implied Q f [] h = h
   implied Q f (x ∷ s) h = (f x h.0, implied Q f s h.1)
 
-module _ (P : Verdict → Type 0) (at after : ℕ → List Verdict) where
+module _ (P : Trial → Type 0) (at after : ℕ → List Trial) where
   -- P of what is tried of the words i to i + n - 1, and after them
   abbrev pub Words : ℕ → ℕ → Type 0
   Words n i = ((j : ℕ) → i ≤ j → j < i + n → All P (at j)) × All P (after (i + n))
@@ -43,7 +43,7 @@ module _ (P : Verdict → Type 0) (at after : ℕ → List Verdict) where
       let w = to_words n (suc i) s.1 in
       (λ j p q. elim (dec_lt i j) [ yes g ↦ w.0 j g (omega arith) | no g ↦ (let z : j ≡ i = omega arith in rw z s.0) ], rw e w.1)
 
--- what holds of `accepted` and of all trials holds of the first that is broken
-pub first_of_law : (P : Verdict → Type 0) (b : Verdict → Bool) (ts : List Verdict) → P accepted → All P ts → P (first_of b ts)
+-- what holds of `accepted`, and of what is said of each trial, holds of the verdict
+pub first_of_law : (P : Verdict → Type 0) (b : Trial → Bool) (ts : List Trial) → P accepted → All (λ t. P (said t)) ts → P (first_of b ts)
 first_of_law P b [] a h = a
 first_of_law P b (t ∷ ts) a h = by_test P (b t) (λ _. h.0) (λ _. first_of_law P b ts a h.1)

@@ -3,15 +3,18 @@ use Prim.Native.Nat.{ℕ, zero, suc, ◌≤◌, ◌<◌}
 use mathlib.Core.Path.{◌≡◌, refl, sym, subst, ◌∙◌}
 use mathlib.Core.Bool.{Bool}
 use mathlib.Core.List.{List}
+use mathlib.Core.Logic.{inl, inr}
+use borrow.Author.Tests.{ne_eqb}
 use native.Mathlib.Nat.{zero-add}
 use native.Mathlib.Omega.{arith}
+use native.Mathlib.Decide.{dec_lt}
 use lib.ListN.{length, drop, length-take, length-drop}
 use Rattle.layout.specs.declared.Layout.{Layout}
 use Rattle.layout.specs.Layout.{layout_refusal}
 use Rattle.layout.proofs.Kept.{kept}
 use Rattle.rules.specs.Not.{Not}
 use Rattle.checker.specs.declared.verdict.Verdict.{Verdict}
-use Rattle.checker.specs.Check.{verdict, no_place, trials_at, trials_after, in_turn, trials_by, is_word_broken, broken_by, first_of, check_of, code_of, placed_of}
+use Rattle.checker.specs.Check.{Trial, trial, verdict, said, no_place, trials_at, trials_after, in_turn, trials_by, is_word_broken, broken_by, first_of, check_of, code_of, placed_of}
 use Rattle.checker.specs.Scan.{file_refusal}
 use Rattle.checker.specs.Lawful.{words_in}
 use Rattle.checker.specs.Refusal.{All, Told}
@@ -19,11 +22,11 @@ use Rattle.checker.proofs.Trials.{implied, of_words, first_of_law}
 use Rattle.checker.proofs.Scan.{OfWords, file_refused, words_tried, sized, by_file, all_of_words}
 
 -- a verdict is that of rules 1 to 6, that of 7, or that of the words
-module _ (P : Verdict → Type 0) (word : ℕ → ℕ → Bool) (at after : ℕ → List Verdict) (l : Layout) (len : ℕ) (img : List ℕ)
+module _ (P : Verdict → Type 0) (word : ℕ → ℕ → Bool) (at after : ℕ → List Trial) (l : Layout) (len : ℕ) (img : List ℕ)
     (above : All OfWords (in_turn at after (words_in l) 0))
     (file : (k : ℕ) → k ≤ 6 → P (verdict k no_place))
     (image : layout_refusal l len ≡ 0 → Not (length img ≡ l.code_size) → P (verdict 7 no_place))
-    (words : 16 ≤ l.code_size → All P (in_turn at after (words_in l) 0)) where
+    (words : 16 ≤ l.code_size → All (λ t. P (said t)) (in_turn at after (words_in l) 0)) where
   by_number : (r : ℕ) → r ≡ file_refusal l len img → P (first_of (broken_by word l len img) (trials_by at after l))
   by_number zero e =
       subst P (words_tried word at after l len img e refl above refl)
@@ -39,22 +42,37 @@ module _ (P : Verdict → Type 0) (word : ℕ → ℕ → Bool) (at after : ℕ 
 
 module _ (l : Layout) where
   pub file_told : (k : ℕ) → k < 8 → Told l (verdict k no_place)
-  file_told k h = record { number_most = omega arith; no_word = λ _. refl; a_word = λ p. absurd (omega (arith, h, p)) }
+  file_told k h = record { number_is = inl (omega arith); no_word = λ _. refl; a_word = λ p. absurd (omega (arith, h, p)); a_mask = λ e. absurd (omega (arith, h, e)) }
 
-  word_told : (k i : ℕ) → 8 ≤ k → k ≤ 16 → i < words_in l → Told l (verdict k i)
-  word_told k i p q h = record { number_most = q; no_word = λ r. absurd (omega (arith, p, r)); a_word = λ _. h }
+  -- 22 names the ANDI
+  mask_told : (i : ℕ) → 16 ≤ l.code_size → i < words_in l → Told l (said (trial 22 i))
+  mask_told i h p =
+      record { number_is = inr refl; no_word = λ r. absurd (omega (arith, r)); a_word = λ _. omega (arith, p); a_mask = λ _. omega (arith, h, p) }
 
-  pub at_told : (i : ℕ) → i < words_in l → All (Told l) (trials_at i)
-  at_told i h =
-      implied (λ t. (8 ≤ t.number) × ((t.number ≤ 16) × (t.place ≡ i))) (Told l)
-      (λ t f. word_told t.number t.place f.0 f.1.0 (omega (arith, h, f.1.1))) (trials_at i) (omega arith)
+  -- all others name the word itself
+  word_told : (k i : ℕ) → 8 ≤ k → k ≤ 16 → i < words_in l → Told l (said (trial k i))
+  word_told k i p q h =
+      rw (ne_eqb k 22 (λ e. omega (arith, q, e)))
+      (record { number_is = inl q; no_word = λ r. absurd (omega (arith, p, r)); a_word = λ _. h; a_mask = λ e. absurd (omega (arith, q, e)) })
 
-  pub after_told : 16 ≤ l.code_size → All (Told l) (trials_after (words_in l))
+  abbrev ToldBy : Trial → Type 0
+  ToldBy t = Told l (said t)
+
+  pub at_told : (i : ℕ) → 16 ≤ l.code_size → i < words_in l → All ToldBy (trials_at i)
+  at_told i h p =
+      implied (λ t. (8 ≤ t.number) × ((16 < t.number → t.number ≡ 22) × (t.word ≡ i))) ToldBy
+      (λ t f. elim (dec_lt 16 t.number) [
+        | yes g ↦ (let e = f.1.0 g in rw e (mask_told t.word h (omega (arith, p, f.1.1))))
+        | no g ↦ word_told t.number t.word f.0 (omega (arith, g)) (omega (arith, p, f.1.1))
+      ])
+      (trials_at i) (omega arith)
+
+  pub after_told : 16 ≤ l.code_size → All ToldBy (trials_after (words_in l))
   after_told h = (word_told 16 _ (omega arith) (omega arith) (omega (arith, h)), tt)
 
-  words_told : 16 ≤ l.code_size → All (Told l) (in_turn trials_at trials_after (words_in l) 0)
+  words_told : 16 ≤ l.code_size → All ToldBy (in_turn trials_at trials_after (words_in l) 0)
   words_told h =
-      of_words (Told l) trials_at trials_after (words_in l) 0 (λ j _ q. at_told j (omega (arith, q)), rw zero-add (after_told h))
+      of_words ToldBy trials_at trials_after (words_in l) 0 (λ j _ q. at_told j h (omega (arith, q)), rw zero-add (after_told h))
 
   pub verdict_told : (len : ℕ) (img : List ℕ) → Told l (check_of l len img)
   unfolding check_of
@@ -77,4 +95,4 @@ module _ (l : Layout) (mem : List ℕ) where
       by_verdict (λ v. Not (v.number ≡ 7)) (is_word_broken l (code_of l mem)) trials_at trials_after l (length mem) (code_of l mem) (all_of_words (words_in l) 0)
       (λ k h e. omega (arith, h, e))
       (λ z h. absurd (h (code_length z)))
-      (λ _. of_words (λ v. Not (v.number ≡ 7)) trials_at trials_after (words_in l) 0 (λ j p q. omega arith, omega arith))
+      (λ _. of_words (λ t. Not (t.number ≡ 7)) trials_at trials_after (words_in l) 0 (λ j p q. omega arith, omega arith))

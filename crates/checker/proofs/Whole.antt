@@ -6,7 +6,7 @@ use mathlib.Core.List.{List, [], ◌∷◌, ◌++◌}
 use native.Mathlib.Omega.{arith}
 use Rattle.layout.specs.declared.Layout.{Layout}
 use Rattle.checker.specs.declared.verdict.Verdict.{Verdict}
-use Rattle.checker.specs.Check.{accepted, file_trials, trials_at, trials_after, in_turn, trials_of, is_broken, first_of, check_of}
+use Rattle.checker.specs.Check.{Trial, said, accepted, file_trials, trials_at, trials_after, in_turn, trials_of, is_broken, first_of, check_of}
 use Rattle.rules.specs.Not.{Not}
 use Rattle.checker.specs.Lawful.{Lawful, words_in}
 use Rattle.checker.specs.Refusal.{Keeps, All, FirstBroken, Refusal}
@@ -16,46 +16,50 @@ use Rattle.checker.proofs.Trials.{join, halves, implied, of_words, to_words, fir
 
 -- ---- the first trial that is broken
 
--- the trial is not `accepted`
-abbrev pub Numbered : Verdict → Type 0
+-- what is said of the trial is not `accepted`
+abbrev pub Numbered : Trial → Type 0
 Numbered t = Not (t.number ≡ 0)
 
-module _ (P : Verdict → Type 0) where
-  later : {s t : Verdict} {ts : List Verdict} → P s → FirstBroken P ts t → FirstBroken P (s ∷ ts) t
+module _ (P : Trial → Type 0) where
+  later : {s t : Trial} {ts : List Trial} → P s → FirstBroken P ts t → FirstBroken P (s ∷ ts) t
   later {s} p f =
       record { before = s ∷ f.before; after = f.after; order = ap (λ l. s ∷ l) f.order; kept = (p, f.kept); broken = f.broken }
 
-  module _ (b : Verdict → Bool) (tests : (t : Verdict) → Denies (P t) (b t)) where
-    pub kept_accepted : (ts : List Verdict) → All P ts → first_of b ts ≡ accepted
+  -- v is what is said of the first of ts that is broken
+  abbrev pub Found : List Trial → Verdict → Type 0
+  Found ts v = (t : Trial) × (FirstBroken P ts t × (v ≡ said t))
+
+  module _ (b : Trial → Bool) (tests : (t : Trial) → Denies (P t) (b t)) where
+    pub kept_accepted : (ts : List Trial) → All P ts → first_of b ts ≡ accepted
     kept_accepted [] h = refl
     kept_accepted (t ∷ ts) h = rw (passes (tests t) h.0) (kept_accepted ts h.1)
 
-    pub accepted_kept : (ts : List Verdict) → All Numbered ts → first_of b ts ≡ accepted → All P ts
+    pub accepted_kept : (ts : List Trial) → All Numbered ts → first_of b ts ≡ accepted → All P ts
     accepted_kept [] n e = tt
     accepted_kept (t ∷ ts) n e = go (tests t) e (accepted_kept ts n.1)
       where
-        go : {c : Bool} → Denies (P t) c → cond c t (first_of b ts) ≡ accepted → (first_of b ts ≡ accepted → All P ts) → P t × All P ts
+        go : {c : Bool} → Denies (P t) c → cond c (said t) (first_of b ts) ≡ accepted → (first_of b ts ≡ accepted → All P ts) → P t × All P ts
         go (breaks p) e f = absurd (n.0 (ap (λ v. v.number) e))
         go (keeps p) e f = (p, f e)
 
-    pub refused_at : (ts : List Verdict) → Not (first_of b ts ≡ accepted) → FirstBroken P ts (first_of b ts)
+    pub refused_at : (ts : List Trial) → Not (first_of b ts ≡ accepted) → Found ts (first_of b ts)
     refused_at [] h = absurd (h refl)
     refused_at (t ∷ ts) h = go (tests t) h (refused_at ts)
       where
-        go : {c : Bool} → Denies (P t) c → Not (cond c t (first_of b ts) ≡ accepted)
-            → (Not (first_of b ts ≡ accepted) → FirstBroken P ts (first_of b ts)) → FirstBroken P (t ∷ ts) (cond c t (first_of b ts))
-        go (breaks p) h f = record { before = []; after = ts; order = refl; kept = tt; broken = p }
-        go (keeps p) h f = later p (f h)
+        go : {c : Bool} → Denies (P t) c → Not (cond c (said t) (first_of b ts) ≡ accepted)
+            → (Not (first_of b ts ≡ accepted) → Found ts (first_of b ts)) → Found (t ∷ ts) (cond c (said t) (first_of b ts))
+        go (breaks p) h f = (t, (record { before = []; after = ts; order = refl; kept = tt; broken = p }, refl))
+        go (keeps p) h f = let (u, (r, e)) = f h in (u, (later p r, e))
 
-    pub first_found : (before after : List Verdict) (t : Verdict) → All P before → Not (P t) → first_of b (before ++ (t ∷ after)) ≡ t
+    pub first_found : (before after : List Trial) (t : Trial) → All P before → Not (P t) → first_of b (before ++ (t ∷ after)) ≡ said t
     first_found [] after t h p = rw (stops (tests t) p)
     first_found (s ∷ before) after t h p = rw (passes (tests s) h.0) (first_found before after t h.1 p)
 
 -- where the first has number 0, there is none
-pub zero_accepted : (b : Verdict → Bool) (ts : List Verdict) → All Numbered ts → (first_of b ts).number ≡ 0 → first_of b ts ≡ accepted
+pub zero_accepted : (b : Trial → Bool) (ts : List Trial) → All Numbered ts → (first_of b ts).number ≡ 0 → first_of b ts ≡ accepted
 zero_accepted b ts h =
     first_of_law (λ v. v.number ≡ 0 → v ≡ accepted) b ts (λ _. refl)
-    (implied Numbered (λ v. v.number ≡ 0 → v ≡ accepted) (λ t n z. absurd (n z)) ts h)
+    (implied Numbered (λ t. t.number ≡ 0 → said t ≡ accepted) (λ t n z. absurd (n z)) ts h)
 
 -- ---- all trials
 
@@ -72,7 +76,7 @@ module _ (l : Layout) (len : ℕ) (img : List ℕ) where
   unfolding check_of
   number_accepted = zero_accepted (is_broken l len img) (trials_of l) (numbered l)
 
-  abbrev Kept : Verdict → Type 0
+  abbrev Kept : Trial → Type 0
   Kept = Keeps l len img
 
   pub kept_lawful : All Kept (trials_of l) → Lawful l len img
@@ -95,9 +99,10 @@ module _ (l : Layout) (len : ℕ) (img : List ℕ) where
         r10 = λ i p. (at i p).1.1.0;
         r11 = λ i p. (at i p).1.1.1.0;
         r12 = λ i p. (at i p).1.1.1.1.0;
-        r13 = λ i p. (at i p).1.1.1.1.1.0;
-        r14 = λ i p. (at i p).1.1.1.1.1.1.0;
-        r15 = λ i p. (at i p).1.1.1.1.1.1.1.0;
+        r22 = λ i p. (at i p).1.1.1.1.1.0;
+        r13 = λ i p. (at i p).1.1.1.1.1.1.0;
+        r14 = λ i p. (at i p).1.1.1.1.1.1.1.0;
+        r15 = λ i p. (at i p).1.1.1.1.1.1.1.1.0;
         r16 = rw e at w.1.0;
       }
 
@@ -108,7 +113,7 @@ module _ (l : Layout) (len : ℕ) (img : List ℕ) where
       (of_words Kept trials_at trials_after (words_in l) 0 (λ i _ q. word i (omega arith), (rw e w.r16, tt)))
     where
       word : (i : ℕ) → i < words_in l → All Kept (trials_at i)
-      word i p = (w.r8 i p, (w.r9 i p, (w.r10 i p, (w.r11 i p, (w.r12 i p, (w.r13 i p, (w.r14 i p, (w.r15 i p, tt))))))))
+      word i p = (w.r8 i p, (w.r9 i p, (w.r10 i p, (w.r11 i p, (w.r12 i p, (w.r22 i p, (w.r13 i p, (w.r14 i p, (w.r15 i p, tt)))))))))
 
   pub accepted_lawful : check_of l len img ≡ accepted → Lawful l len img
   unfolding check_of
@@ -118,12 +123,12 @@ module _ (l : Layout) (len : ℕ) (img : List ℕ) where
   unfolding check_of
   lawful_accepted w = kept_accepted Kept (is_broken l len img) (rule_tests l len img) (trials_of l) (lawful_kept w)
 
-  pub refused_first : Not (check_of l len img ≡ accepted) → Refusal l len img (check_of l len img)
+  pub refused_first : Not (check_of l len img ≡ accepted) → (t : Trial) × (Refusal l len img t × (check_of l len img ≡ said t))
   unfolding check_of
   refused_first h = refused_at Kept (is_broken l len img) (rule_tests l len img) (trials_of l) h
 
   -- what the rules refuse is what the checker says
-  pub refusal_unique : (t : Verdict) → Refusal l len img t → check_of l len img ≡ t
+  pub refusal_unique : (t : Trial) → Refusal l len img t → check_of l len img ≡ said t
   unfolding check_of
   refusal_unique t r =
       ap (first_of (is_broken l len img)) r.order

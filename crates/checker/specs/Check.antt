@@ -1,65 +1,83 @@
--- The checker: every rule at every place, tried in document 01's order, until one is broken.
+-- The checker: every rule at every word, tried in document 01's order, until one is broken.
 use Rattle.std.specs.Prelude.{ℕ, zero, suc, ◌-◌, ◌/◌, Bool, true, false, cond, not, List, [], ◌∷◌, ◌++◌, eqb, leb, length, take, drop}
 use Rattle.view.specs.View.{passes, is_branch, is_jump}
 use Rattle.layout.specs.declared.Layout.{Layout}
 use Rattle.layout.specs.Layout.{broken1, broken2, broken3, broken4, broken5, broken6}
 use Rattle.checker.specs.declared.verdict.Verdict.{Verdict}
-use Rattle.rules.specs.Rules.{view_at, view_before, broken10, broken11, broken12, broken13, broken14, broken15}
+use Rattle.rules.specs.Rules.{view_at, view_before, broken10, broken11, broken12, broken22, broken13, broken14, broken15}
 
--- a rule's number and the place where it is tried; what a refusal hands back
+-- ---- trials
+
+-- a rule, and the word at which it is tried: no_word for those of layout and image
+pub record Trial : Type 0 where
+  pub number : ℕ
+  pub word : ℕ
+
+abbrev pub trial : ℕ → ℕ → Trial
+trial n i = record { number = n; word = i }
+
+-- what a refusal hands back: the rule that is broken, and its place
 abbrev pub verdict : ℕ → ℕ → Verdict
 verdict n p = record { number = n; place = p }
 
--- the place of what is no word's: 0xFFFFFFFF
+-- stands for the word of what is tried at none, and for its place: 0xFFFFFFFF
 abbrev pub no_place : ℕ
 no_place = 4294967295
 
 abbrev pub accepted : Verdict
 accepted = verdict 0 no_place
 
+-- the word that rule n names where it is broken at word i: the word itself, but for 22 the ANDI of its guard, two words before (document 02, Ticket 5)
+abbrev pub named : ℕ → ℕ → ℕ
+named n i = cond (eqb n 22) (i - 2) i
+
+-- what is said where trial t is the first that is broken
+abbrev pub said : Trial → Verdict
+said t = verdict t.number (named t.number t.word)
+
 -- ---- the order (document 01, under the Refusal table)
 
 -- layout and image, 1 to 7 by number
-abbrev pub file_trials : List Verdict
+abbrev pub file_trials : List Trial
 file_trials =
-    verdict 1 no_place ∷ verdict 2 no_place ∷ verdict 3 no_place ∷ verdict 4 no_place ∷ verdict 5 no_place ∷ verdict 6 no_place
-    ∷ verdict 7 no_place ∷ []
+    trial 1 no_place ∷ trial 2 no_place ∷ trial 3 no_place ∷ trial 4 no_place ∷ trial 5 no_place ∷ trial 6 no_place ∷ trial 7 no_place ∷ []
 
--- word i, 8 to 15 by number
-abbrev pub trials_at : ℕ → List Verdict
+-- word i, 8 to 15 by number, and 22 directly after 12 (document 02, Ticket 5)
+abbrev pub trials_at : ℕ → List Trial
 trials_at i =
-    verdict 8 i ∷ verdict 9 i ∷ verdict 10 i ∷ verdict 11 i ∷ verdict 12 i ∷ verdict 13 i ∷ verdict 14 i ∷ verdict 15 i ∷ []
+    trial 8 i ∷ trial 9 i ∷ trial 10 i ∷ trial 11 i ∷ trial 12 i ∷ trial 22 i ∷ trial 13 i ∷ trial 14 i ∷ trial 15 i ∷ []
 
--- after n words: 16, whose place is the last word but one
-abbrev pub trials_after : ℕ → List Verdict
-trials_after n = verdict 16 (n - 2) ∷ []
+-- after n words: 16, at the last word but one
+abbrev pub trials_after : ℕ → List Trial
+trials_after n = trial 16 (n - 2) ∷ []
 
 -- n words from word i on, each tried with its `at`; then `after`, of the number of words
-abbrev pub in_turn : (ℕ → List Verdict) → (ℕ → List Verdict) → ℕ → ℕ → List Verdict
+abbrev pub in_turn : (ℕ → List Trial) → (ℕ → List Trial) → ℕ → ℕ → List Trial
 in_turn at after zero i = after i
 in_turn at after (suc n) i = at i ++ in_turn at after n (suc i)
 
 -- layout and image; then the words from index 0
-abbrev pub trials_by : (ℕ → List Verdict) → (ℕ → List Verdict) → Layout → List Verdict
+abbrev pub trials_by : (ℕ → List Trial) → (ℕ → List Trial) → Layout → List Trial
 trials_by at after l = file_trials ++ in_turn at after (l.code_size / 4) 0
 
-abbrev pub trials_of : Layout → List Verdict
+abbrev pub trials_of : Layout → List Trial
 trials_of l = trials_by trials_at trials_after l
 
 -- ---- the rules by number
 
--- 8 to 16, at word i
+-- 8 to 16 and 22, at word i
 unfoldable pub is_word_broken : Layout → List ℕ → ℕ → ℕ → Bool
 is_word_broken l img n i =
     cond (eqb n 8) (not (passes (λ v. true) (view_at img i)))
     (cond (eqb n 9) (passes (λ v. v.barred) (view_at img i))
     (cond (eqb n 10) (passes broken10 (view_at img i))
     (cond (eqb n 11) (passes broken11 (view_at img i))
-    (cond (eqb n 12) (passes (broken12 l.data_size img i) (view_at img i))
+    (cond (eqb n 12) (passes (broken12 img i) (view_at img i))
+    (cond (eqb n 22) (passes (broken22 l.data_size img i) (view_at img i))
     (cond (eqb n 13) (passes (broken13 l.code_size img i) (view_at img i))
     (cond (eqb n 14) (passes (broken14 (passes is_branch (view_before img i))) (view_at img i))
     (cond (eqb n 15) (passes (broken15 l img i) (view_at img i))
-    (cond (eqb n 16) (not (passes is_jump (view_at img i))) false))))))))
+    (cond (eqb n 16) (not (passes is_jump (view_at img i))) false)))))))))
 
 -- 1 to 7; len is the memory's length
 unfoldable pub is_file_broken : Layout → ℕ → List ℕ → ℕ → Bool
@@ -72,19 +90,19 @@ is_file_broken l len img n =
     (cond (eqb n 6) (broken6 l)
     (cond (eqb n 7) (not (eqb (length img) l.code_size)) false))))))
 
--- any other number by `word`, which is told the place too
-abbrev pub broken_by : (ℕ → ℕ → Bool) → Layout → ℕ → List ℕ → Verdict → Bool
-broken_by word l len img t = cond (leb t.number 7) (is_file_broken l len img t.number) (word t.number t.place)
+-- any other number by `word`, which is told the word too
+abbrev pub broken_by : (ℕ → ℕ → Bool) → Layout → ℕ → List ℕ → Trial → Bool
+broken_by word l len img t = cond (leb t.number 7) (is_file_broken l len img t.number) (word t.number t.word)
 
-abbrev pub is_broken : Layout → ℕ → List ℕ → Verdict → Bool
+abbrev pub is_broken : Layout → ℕ → List ℕ → Trial → Bool
 is_broken l len img t = broken_by (is_word_broken l img) l len img t
 
 -- ---- the verdict
 
--- the first trial at which a rule is broken, or accepted
-abbrev pub first_of : (Verdict → Bool) → List Verdict → Verdict
+-- of the first trial at which a rule is broken, or accepted
+abbrev pub first_of : (Trial → Bool) → List Trial → Verdict
 first_of broken [] = accepted
-first_of broken (t ∷ ts) = cond (broken t) t (first_of broken ts)
+first_of broken (t ∷ ts) = cond (broken t) (said t) (first_of broken ts)
 
 unfoldable pub check_of : Layout → ℕ → List ℕ → Verdict
 check_of l len img = first_of (is_broken l len img) (trials_of l)

@@ -63,17 +63,60 @@ refusals =
     ∷ holding (0 ∷ 0 ∷ 0 ∷ 0 ∷ 0 ∷ 0 ∷ 0 ∷ 0 ∷ []) (verdict 16 6)
     ∷ []
 
--- C9 to C12
+-- C9 to C12; C10 and C11 as document 02, Ticket 5, has them
 abbrev pub cases : List Example
 cases =
     holding words_m accepted
-    ∷ holding (0x3108003F ∷ 0x011A4025 ∷ 0xAD090000 ∷ 0x0000000C ∷ 0 ∷ 0 ∷ 0x08004000 ∷ 0 ∷ []) (verdict 12 2)
-    ∷ holding (0x31080040 ∷ 0x011A4025 ∷ 0xAD090000 ∷ 0x0000000C ∷ 0 ∷ 0 ∷ 0x08004000 ∷ 0 ∷ []) (verdict 12 2)
+    ∷ holding (0x3108003F ∷ 0x011A4025 ∷ 0xAD090000 ∷ 0x0000000C ∷ 0 ∷ 0 ∷ 0x08004000 ∷ 0 ∷ []) (verdict 22 0)
+    ∷ holding (0x31080040 ∷ 0x011A4025 ∷ 0xAD090000 ∷ 0x0000000C ∷ 0 ∷ 0 ∷ 0x08004000 ∷ 0 ∷ []) (verdict 22 0)
     ∷ holding (0x3108003C ∷ 0x011A4025 ∷ 0xAD090000 ∷ 0x0000000C ∷ 0 ∷ 0 ∷ 0x08004001 ∷ 0 ∷ []) (verdict 15 6)
     ∷ []
 
 abbrev pub examples : List Example
 examples = refusals ++ cases
+
+-- words a, b and c, one zero word, and zeros but for a jump to the first word
+abbrev pub three : ℕ → ℕ → ℕ → Verdict → Example
+three a b c v = holding (a ∷ b ∷ c ∷ 0 ∷ 0 ∷ 0 ∷ 0x08004000 ∷ 0 ∷ []) v
+
+-- 12 and 22 told apart (document 02, Ticket 5): M's guard, ANDI 8,8,60 and OR 8,8,26, and its SW 9,0(8), each with something else in its place
+abbrev pub guards : List Example
+guards =
+    -- the ANDI forgotten, the OR forgotten; XOR for OR; 27 for 26
+    three 0 0x011A4025 0xAD090000 (verdict 12 2)
+    ∷ three 0x3108003C 0 0xAD090000 (verdict 12 2)
+    ∷ three 0x3108003C 0x011A4026 0xAD090000 (verdict 12 2)
+    ∷ three 0x3108003C 0x011B4025 0xAD090000 (verdict 12 2)
+    -- R is 9 in the ANDI, in the OR, in the SW; R is 0 in all three; and 9 in the ANDI with a mask too large: a wrong R is counted first
+    ∷ three 0x3109003C 0x011A4025 0xAD090000 (verdict 12 2)
+    ∷ three 0x3108003C 0x013A4825 0xAD090000 (verdict 12 2)
+    ∷ three 0x3108003C 0x011A4025 0xAD290000 (verdict 12 2)
+    ∷ three 0x3100003C 0x001A0025 0xAC090000 (verdict 12 2)
+    ∷ three 0x31090040 0x011A4025 0xAD090000 (verdict 12 2)
+    -- the guard in the bundle before, with a mask too large
+    ∷ holding (0 ∷ 0 ∷ 0x31080040 ∷ 0x011A4025 ∷ 0xAD090000 ∷ 0 ∷ 0x08004000 ∷ 0 ∷ []) (verdict 12 4)
+    -- the last word that the area has, and the offset 4 past it; the same with a smaller mask
+    ∷ three 0x3108003C 0x011A4025 0xAD090004 (verdict 22 0)
+    ∷ three 0x31080038 0x011A4025 0xAD090004 accepted
+    -- SW 9,2(8), and SH in its place; SH 9,1(8), and SB in its place; a mask of 63 for SB
+    ∷ three 0x31080038 0x011A4025 0xAD090002 (verdict 22 0)
+    ∷ three 0x31080038 0x011A4025 0xA5090002 accepted
+    ∷ three 0x31080038 0x011A4025 0xA5090001 (verdict 22 0)
+    ∷ three 0x31080038 0x011A4025 0xA1090001 accepted
+    ∷ three 0x3108003F 0x011A4025 0xA1090000 accepted
+    -- SW 9,-4(8)
+    ∷ three 0x3108003C 0x011A4025 0xAD09FFFC (verdict 22 0)
+    -- the access in the bundle's last word
+    ∷ holding (0 ∷ 0x31080040 ∷ 0x011A4025 ∷ 0xAD090000 ∷ 0 ∷ 0 ∷ 0x08004000 ∷ 0 ∷ []) (verdict 22 1)
+    -- JR 8, whose mask is no multiple of 16, and is too large
+    ∷ three 0x31080008 0x011B4025 0x01000008 (verdict 13 2)
+    ∷ three 0x31080020 0x011B4025 0x01000008 (verdict 13 2)
+    -- two guards: the first that is broken in the order of the words that need them
+    ∷ holding (0x31080040 ∷ 0x011A4025 ∷ 0xAD090000 ∷ 0xAD090000 ∷ 0 ∷ 0 ∷ 0x08004000 ∷ 0 ∷ []) (verdict 22 0)
+    ∷ holding (0 ∷ 0 ∷ 0 ∷ 0xAD090000 ∷ 0x31080040 ∷ 0x011A4025 ∷ 0xAD090000 ∷ 0 ∷ []) (verdict 12 3)
+    -- R is 26 in all three: 10 refuses the ANDI before
+    ∷ three 0x311A003C 0x035AD025 0xAF490000 (verdict 10 0)
+    ∷ []
 
 -- what the checker says of an example
 abbrev pub said_of : Example → Verdict

@@ -127,8 +127,19 @@ Rule11 img i =
     (x : Instruction) → Stands img i x
     → ((x.kind ≡ K.Branch Jalr) → Not (x.rd ≡ x.rs)) × (LinkingBranch x → Not (x.rs ≡ 31))
 
-abbrev pub Rule12 : Layout → List ℕ → ℕ → Type 0
-Rule12 l img i =
+-- an access has its guard words, whatever their mask
+abbrev pub Rule12 : List ℕ → ℕ → Type 0
+Rule12 img i = (x : Instruction) → Stands img i x → Accesses x → (m : ℕ) × Guarded img i x.rs 26 m
+
+-- where it has them, their mask and its offset fit (document 02, Ticket 5)
+abbrev pub Rule22 : Layout → List ℕ → ℕ → Type 0
+Rule22 l img i =
+    (x : Instruction) → Stands img i x → Accesses x
+    → (m : ℕ) → Guarded img i x.rs 26 m → FitsData l.data_size m (offset_of x.value) (width_of x)
+
+-- the two together, which document 01 has as one rule: an access has a fitting guard
+abbrev pub FittingGuard : Layout → List ℕ → ℕ → Type 0
+FittingGuard l img i =
     (x : Instruction) → Stands img i x → Accesses x
     → (m : ℕ) × (Guarded img i x.rs 26 m × FitsData l.data_size m (offset_of x.value) (width_of x))
 
@@ -154,7 +165,7 @@ Rule16 img i = (x : Instruction) × (Stands img i x × ((flow_of x ≡ Region) �
 abbrev pub words_in : Layout → ℕ
 words_in l = l.code_size / 4
 
--- a module keeps document 01's rules
+-- a module keeps document 01's rules, of which document 02 parts 12 into 12 and 22
 pub record Lawful (l : Layout) (len : ℕ) (img : List ℕ) : Type 0 where
   pub r1 : len ≤ longest
   pub r2 : Power 16 65536 l.code_size
@@ -167,7 +178,8 @@ pub record Lawful (l : Layout) (len : ℕ) (img : List ℕ) : Type 0 where
   pub r9 : (i : ℕ) → i < words_in l → Rule9 img i
   pub r10 : (i : ℕ) → i < words_in l → Rule10 img i
   pub r11 : (i : ℕ) → i < words_in l → Rule11 img i
-  pub r12 : (i : ℕ) → i < words_in l → Rule12 l img i
+  pub r12 : (i : ℕ) → i < words_in l → Rule12 img i
+  pub r22 : (i : ℕ) → i < words_in l → Rule22 l img i
   pub r13 : (i : ℕ) → i < words_in l → Rule13 l img i
   pub r14 : (i : ℕ) → i < words_in l → Rule14 img i
   pub r15 : (i : ℕ) → i < words_in l → Rule15 l img i

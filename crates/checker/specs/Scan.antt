@@ -1,4 +1,4 @@
--- What the code asks of layout and image, and of one word: the first of 1 to 7, or of 8 to 15, that is broken, 0 where none is; and whether a
+-- What the code asks of layout and image, and of one word: the first of 1 to 7, or of 8 to 15 and 22, that is broken, 0 where none is; and whether a
 -- word is a branch or jump. The verdict (`check_of`) does not rest on this; `file_first` and `word_first` of proofs/Scan tie the two together.
 use Rattle.std.specs.Prelude.{ℕ, zero, suc, ◌≡◌, ◌-◌, ◌/◌, Bool, cond, not, List, IfOk, Option, Some, None, Result, eqb, length}
 use Rattle.refusal.specs.declared.Refusal.{Refusal}
@@ -6,9 +6,9 @@ use Rattle.layout.specs.declared.Layout.{Layout}
 use Rattle.layout.specs.Layout.{layout_refusal}
 use Rattle.view.specs.declared.View.{View}
 use Rattle.view.specs.View.{passes, is_branch, is_jump}
-use Rattle.rules.specs.Rules.{view_at, view_before, broken10, broken11, broken12, broken13, broken14, broken15}
+use Rattle.rules.specs.Rules.{view_at, view_before, broken10, broken11, broken12, broken22, broken13, broken14, broken15}
 use Rattle.checker.specs.declared.verdict.Verdict.{Verdict}
-use Rattle.checker.specs.Check.{verdict, no_place, accepted, in_turn, first_of}
+use Rattle.checker.specs.Check.{Trial, trial, verdict, said, no_place, accepted, in_turn, first_of}
 
 unfoldable pub file_refusal : Layout → ℕ → List ℕ → ℕ
 file_refusal l len img =
@@ -21,10 +21,11 @@ word_refusal l img i after (Some v) =
     cond v.barred 9
     (cond (broken10 v) 10
     (cond (broken11 v) 11
-    (cond (broken12 l.data_size img i v) 12
+    (cond (broken12 img i v) 12
+    (cond (broken22 l.data_size img i v) 22
     (cond (broken13 l.code_size img i v) 13
     (cond (broken14 after v) 14
-    (cond (broken15 l img i v) 15 0))))))
+    (cond (broken15 l img i v) 15 0)))))))
 
 -- ---- the same with the rules of a profile: of_branch is asked of branches and jumps after 15, of_whole after 16
 
@@ -43,18 +44,22 @@ SaysBranch r v = IfOk r (λ b. b ≡ passes is_branch v)
 abbrev pub number_at : (Layout → ℕ → View → ℕ) → Layout → List ℕ → ℕ → ℕ
 number_at of_branch l img i = number_of_word of_branch l img i (passes is_branch (view_before img i)) (view_at img i)
 
--- of n words from word i on, each of which has a number, the first that is not 0, at its place; `end` where all are
+-- of n words from word i on, each of which has a number, what is said of the first that is not 0; `end` where all are
 abbrev pub first_word : (ℕ → ℕ) → Verdict → ℕ → ℕ → Verdict
 first_word number end zero i = end
-first_word number end (suc n) i = cond (eqb (number i) 0) (first_word number end n (suc i)) (verdict (number i) i)
+first_word number end (suc n) i = cond (eqb (number i) 0) (first_word number end n (suc i)) (said (trial (number i) i))
 
--- of number k at place p; 0 says nothing
+-- of rule k at word i; 0 says nothing
 abbrev pub verdict_at : ℕ → ℕ → Verdict
-verdict_at k p = cond (eqb k 0) accepted (verdict k p)
+verdict_at k i = cond (eqb k 0) accepted (said (trial k i))
+
+-- of rule k of the whole, which no word is named by
+abbrev pub verdict_of_whole : ℕ → Verdict
+verdict_of_whole k = cond (eqb k 0) accepted (verdict k no_place)
 
 -- after n words
 abbrev pub end_verdict : (Layout → List ℕ → ℕ) → Layout → List ℕ → ℕ → Verdict
-end_verdict of_whole l img n = cond (not (passes is_jump (view_at img (n - 2)))) (verdict 16 (n - 2)) (verdict_at (of_whole l img) no_place)
+end_verdict of_whole l img n = cond (not (passes is_jump (view_at img (n - 2)))) (said (trial 16 (n - 2))) (verdict_of_whole (of_whole l img))
 
 -- by the loop, for any profile; `basic_words` and `straight_words` of the two proofs/Scan tie it to the trials of the two that there are
 unfoldable pub words_verdict : (Layout → ℕ → View → ℕ) → (Layout → List ℕ → ℕ) → Layout → List ℕ → Verdict
@@ -67,5 +72,5 @@ image_verdict of_branch of_whole l len img =
     cond (eqb (file_refusal l len img) 0) (words_verdict of_branch of_whole l img) (verdict (file_refusal l len img) no_place)
 
 -- the verdict on n words from word i on, by trials
-abbrev pub words_by : (ℕ → ℕ → Bool) → (ℕ → List Verdict) → (ℕ → List Verdict) → ℕ → ℕ → Verdict
-words_by word at after n i = first_of (λ (t : Verdict). word t.number t.place) (in_turn at after n i)
+abbrev pub words_by : (ℕ → ℕ → Bool) → (ℕ → List Trial) → (ℕ → List Trial) → ℕ → ℕ → Verdict
+words_by word at after n i = first_of (λ (t : Trial). word t.number t.word) (in_turn at after n i)

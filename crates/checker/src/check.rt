@@ -36,7 +36,7 @@ impl<'a> Candidate<'a> {
     }
 
     // Layout and image, then the words, with a profile's rules among them.
-    #[tactic(auto, using(crate::proofs::Numbers::not_zero), unfolding(crate::specs::Scan::image_verdict))]
+    #[tactic(auto, using(refusal::proofs::Numbers::number_some), unfolding(crate::specs::Scan::image_verdict))]
     pub fn check_by<P: Profile>(self) -> Result<(), Refused>
         ensures { verdict_of result ≡ Scan.image_verdict P.of_branch P.of_whole self.entry.layout self.entry.memory_length self.entry.image.now }
     {

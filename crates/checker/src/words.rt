@@ -1,10 +1,10 @@
-// The words of an image in their order, each tried with 8 to 15.
+// The words of an image in their order, each tried with 8 to 15, and 22 after 12.
 ghost use Rattle.std.specs.Prelude.{◌≡◌, ◌<◌, ◌/◌, ℕ, IfOk, List, Ok, Some, length};
 ghost use Rattle.layout.specs.declared.Layout.{Layout};
-ghost use Rattle.refusal.specs.Refusal.{refused_number};
+ghost use Rattle.refusal.specs.Refusal.{number_of, refused_number};
 ghost use Rattle.rules.specs.Rules.{view_at};
 ghost use Rattle.view.specs.declared.View.{View};
-ghost use Rattle.checker.specs.Check.{no_place};
+ghost use Rattle.checker.specs.Check.{named, no_place};
 ghost use Rattle.checker.specs.Said.{verdict_of};
 ghost use Rattle.checker.specs.Scan as Spec;
 
@@ -58,13 +58,14 @@ pub fn check_word(site: Site, after: bool, v: View) -> Result<(), Refusal>
     Refusal::Barred.when(v.barred)?;
     Refusal::WritesBase.when(single::breaks10(v))?;
     Refusal::LinkOverBase.when(single::breaks11(v))?;
-    Refusal::DataGuard.when(guard::breaks12(layout.data_size, word, v))?;
+    Refusal::DataGuard.when(guard::breaks12(word, v))?;
+    Refusal::DataMask.when(guard::breaks22(layout.data_size, word, v))?;
     Refusal::CodeGuard.when(guard::breaks13(layout.code_size, word, v))?;
     Refusal::BranchAfterBranch.when(single::breaks14(after, v))?;
     Refusal::Target.when(landing::breaks15(site, v))
 }
 
-// Whether the word is a branch or jump, where it breaks no rule. A plain word breaks none of 8 to 15 and is no branch: it need not be read.
+// Whether the word is a branch or jump, where it breaks no rule. A plain word breaks none of these rules and is no branch: it need not be read.
 #[tactic(auto, using(crate::proofs::Scan::plain_branch, crate::proofs::Scan::plain_number, crate::proofs::Scan::view_is), unfolding(crate::specs::Scan::number_of_word, crate::specs::Scan::word_refusal))]
 fn try_word<P: Profile>(site: Site, after: bool) -> Result<bool, Refusal>
     ensures number { refused_number result ≡ Spec.number_of_word P.of_branch site.entry.whole.layout site.entry.whole.image.now site.entry.index after (view_at site.entry.whole.image.now site.entry.index) }
@@ -85,7 +86,18 @@ fn try_word<P: Profile>(site: Site, after: bool) -> Result<bool, Refusal>
     Ok(branch)
 }
 
-// What is said of word i has its index for place.
+// The word that a rule names where it is broken at word i: for 22, the ANDI of its guard.
+fn named(rule: Refusal, i: u32) -> u32
+    ensures { result ≡ named (number_of rule) i }
+{
+    if rule == Refusal::DataMask {
+        i.saturating_sub(2)
+    } else {
+        i
+    }
+}
+
+// What is said of word i names it, or a word before it.
 fn at_word<A>(i: usize, said: Result<A, Refusal>) -> Result<A, Refused>
     requires { i < no_place }
     ensures verdict { verdict_of result ≡ Spec.verdict_at (refused_number said) i }
@@ -97,7 +109,7 @@ fn at_word<A>(i: usize, said: Result<A, Refusal>) -> Result<A, Refused>
         {
             Refused {
                 rule,
-                place: Some(i as u32),
+                place: Some(named(rule, i as u32)),
             }
         },
     )

@@ -17,6 +17,7 @@ use Rattle.layout.proofs.Sizes.{divides}
 use Rattle.rules.specs.Offset.{offset_of}
 use Rattle.rules.specs.Not.{Not}
 use Rattle.checker.specs.Lawful.{Stands, Accesses, ByRegister, width_of, Guarded, FitsData, FitsCode, Placed, words_in, Lawful}
+use Rattle.checker.proofs.Guarded.{together}
 
 pub data Area : Type 0 where
   Data : Area
@@ -108,5 +109,5 @@ module _ (l : Layout) (len : ℕ) (img : List ℕ) (ok : Lawful l len img) where
 
   -- an instruction that needs a guard has a fitting one
   pub guard_of : (a : Area) (i : ℕ) (x : Instruction) → i < words_in l → Stands img i x → Uses a x → (m : ℕ) × (Guarded img i x.rs (base_register a) m × Fits l a x m)
-  guard_of Data i x h s u = ok.r12 i h x s u
+  guard_of Data i x h s u = together l img i (ok.r12 i h) (ok.r22 i h) x s u
   guard_of Code i x h s u = ok.r13 i h x s u

@@ -4,7 +4,7 @@ use Rattle.std.specs.Prelude.{ℕ, ◌+◌, ◌/◌, Bool, true, false, cond, �
 use Rattle.layout.specs.declared.Layout.{Layout}
 use Rattle.layout.specs.Layout.{layout_of}
 use Rattle.checker.specs.declared.verdict.Verdict.{Verdict}
-use Rattle.checker.specs.Check.{verdict, no_place, trials_of, is_broken, first_of, check_of}
+use Rattle.checker.specs.Check.{Trial, trial, no_place, trials_of, is_broken, first_of, check_of}
 use Rattle.checker.specs.Examples.{bytes_of}
 use Rattle.machine.specs.declared.state.State.{State}
 use Rattle.machine.specs.State.{join_of}
@@ -66,7 +66,7 @@ pub record Row : Type 0 where
   pub layout : Layout
   pub words : List ℕ
   pub state : State
-  pub broken : List Verdict
+  pub broken : List Trial
   pub escape : Escape
 
 abbrev pub image_of : Row → List ℕ
@@ -91,14 +91,14 @@ events = Run 16 ∷ Resume ∷ Run 16 ∷ []
 abbrev pub tried_in : Row → List Machine
 tried_in r = list_tries methods r.layout events (lent_of r)
 
--- every rule broken, at every place
-abbrev pub broken_among : (Verdict → Bool) → List Verdict → List Verdict
+-- every rule broken, at every word
+abbrev pub broken_among : (Trial → Bool) → List Trial → List Trial
 broken_among broken [] = []
 broken_among broken (t ∷ ts) = cond (broken t) (t ∷ []) [] ++ broken_among broken ts
 
 pub record Finding : Type 0 where
   pub says : Verdict
-  pub broken : List Verdict
+  pub broken : List Trial
   pub escape : Escape
 
 abbrev pub found : Row → Finding
@@ -111,7 +111,7 @@ found r =
 
 -- the checker says what is broken, or accepts
 abbrev pub wanted : Row → Finding
-wanted r = record { says = first_of (λ (v : Verdict). true) r.broken; broken = r.broken; escape = r.escape }
+wanted r = record { says = first_of (λ (t : Trial). true) r.broken; broken = r.broken; escape = r.escape }
 
 -- ---- states
 
@@ -177,10 +177,10 @@ usual = layout_of 64 32 32 16
 abbrev pub wide : Layout
 wide = layout_of 64 64 32 16
 
--- in layout l, rule n at word p; x in register 8
+-- in layout l, rule n is broken at word p; x in register 8
 abbrev pub breaks_in : Layout → ℕ → ℕ → ℕ → List ℕ → Escape → Row
 breaks_in l n p x ws e =
-    record { layout = l; words = ws; state = start_of l x; broken = verdict n p ∷ []; escape = e }
+    record { layout = l; words = ws; state = start_of l x; broken = trial n p ∷ []; escape = e }
 
 abbrev pub breaks : ℕ → ℕ → ℕ → List ℕ → Escape → Row
 breaks n p x ws e = breaks_in usual n p x ws e
@@ -209,12 +209,13 @@ escapes =
     -- R is register 0: ANDI 0,8,12; OR 0,0,26; SW 9,0(0)
     ∷ breaks 12 2 0 (looped 0x3100000C 0x001A0025 0xAC090000 nop) (AccessesAt 0 4)
     -- mask, or mask and offset, too large: ANDI 8,8,16; SW 9,4(8)
-    ∷ breaks 12 2 16 (looped (andi 16) or26 sw nop) (AccessesAt 48 4)
-    ∷ breaks 12 2 12 (looped (andi 12) or26 0xAD090004 nop) (AccessesAt 48 4)
+    ∷ breaks 22 2 16 (looped (andi 16) or26 sw nop) (AccessesAt 48 4)
+    ∷ breaks 22 2 12 (looped (andi 12) or26 0xAD090004 nop) (AccessesAt 48 4)
     -- offset negative: SW 9,-4(8)
-    ∷ breaks 12 2 0 (looped (andi 12) or26 0xAD09FFFC nop) (AccessesAt 28 4)
-    -- mask no multiple of the width
-    ∷ breaks 12 2 1 (looped (andi 9) or26 sw nop) (Exits 43)
+    ∷ breaks 22 2 0 (looped (andi 12) or26 0xAD09FFFC nop) (AccessesAt 28 4)
+    -- mask, or offset, no multiple of the width: ANDI 8,8,9; SW 9,1(8)
+    ∷ breaks 22 2 1 (looped (andi 9) or26 sw nop) (Exits 43)
+    ∷ breaks 22 2 0 (looped (andi 8) or26 0xAD090001 nop) (Exits 43)
     -- guard in the bundle before, and JR to the access
     ∷ breaks_in wide 12 8 32 (andi 32 ∷ or27 ∷ jr ∷ nop ∷ nop ∷ nop ∷ andi 12 ∷ or26 ∷ looped sw nop nop nop) (AccessesAt 96 4)
     -- JR without guard

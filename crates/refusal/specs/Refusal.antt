@@ -1,7 +1,7 @@
--- The number of each refusal (document 01, Refusal table; document 02, Tickets 1 and 2), and the number that stands for what may be one.
+-- The number of each refusal (document 01, Refusal table; document 02, Tickets 2 and 5), and the number that stands for what may be one.
 use Rattle.std.specs.Prelude.{ℕ, ◌≡◌, Bool, true, false, Result, Ok, Err}
 use Rattle.refusal.specs.declared.Refusal.{Refusal}
-use Rattle.refusal.specs.declared.Refusal.TheVariants.{MemoryTooLong, CodeSize, DataSize, CodePlace, DataPlace, Overlap, ImageLength, NoInstruction, Barred, WritesBase, LinkOverBase, DataGuard, CodeGuard, BranchAfterBranch, Target, NoLastJump, State, IllegalField, NotServed, NotForward, LastBundle}
+use Rattle.refusal.specs.declared.Refusal.TheVariants.{MemoryTooLong, CodeSize, DataSize, CodePlace, DataPlace, Overlap, ImageLength, NoInstruction, Barred, WritesBase, LinkOverBase, DataGuard, CodeGuard, BranchAfterBranch, Target, NoLastJump, State, IllegalField, NotServed, NotForward, LastBundle, DataMask}
 
 abbrev pub number_of : Refusal → ℕ
 number_of MemoryTooLong = 1
@@ -25,6 +25,7 @@ number_of IllegalField = 18
 number_of NotServed = 19
 number_of NotForward = 20
 number_of LastBundle = 21
+number_of DataMask = 22
 
 abbrev pub IsNumberOf : Refusal → ℕ → Type 0
 IsNumberOf r n = n ≡ number_of r

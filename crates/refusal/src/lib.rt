@@ -24,6 +24,7 @@ pub enum Refusal {
     NotServed = 19,
     NotForward = 20,
     LastBundle = 21,
+    DataMask = 22,
 }
 
 // What a rule that is broken, or a test that holds, ends in: a refusal, or an exit of the machine.

@@ -1,4 +1,4 @@
--- The rules of words as tests, 10 to 15 (document 01, Module and its guards; Refusal table); 8 is that there is no view, 9 is `barred` of the view. img is the image, i a word's index.
+-- The rules of words as tests, 10 to 15 and 22 (document 01, Module and its guards; Refusal table; document 02, Ticket 5); 8 is that there is no view, 9 is `barred` of the view. img is the image, i a word's index.
 use Rattle.std.specs.Prelude.{ℕ, ◌+◌, ◌-◌, ◌*◌, ◌/◌, ◌%◌, ◌≤◌, Bool, false, cond, not, ◌&&◌, ◌||◌, ◌≡◌, List, Option, Some, None, is_some, eqb, leb, ltb, ℤ, pos, negsuc, length}
 use Rattle.word.specs.Bytes.{load_of, longest}
 use Rattle.isa.specs.Width.{bytes_of}
@@ -56,9 +56,13 @@ mask_at img i = mask_in (word_at img (i - 2))
 abbrev pub in_bundle : ℕ → Bool
 in_bundle i = leb 2 (i % 4)
 
--- the mask of the guard before word i, where there is one
+-- so that there is a guard before word i
+abbrev pub has_guard : List ℕ → ℕ → ℕ → ℕ → Bool
+has_guard img i base r = in_bundle i && is_guarded_at img i base r
+
+-- its mask, where there is one
 unfoldable pub guard_mask : List ℕ → ℕ → ℕ → ℕ → Option ℕ
-guard_mask img i base r = cond (in_bundle i && is_guarded_at img i base r) (Some (mask_at img i)) None
+guard_mask img i base r = cond (has_guard img i base r) (Some (mask_at img i)) None
 
 -- mask m and offset are multiples of the width w, the offset isn't negative, and m + offset + w is at most the data size
 unfoldable pub fits_data : ℕ → ℕ → ℤ → ℕ → Bool
@@ -69,15 +73,18 @@ fits_data size m (negsuc o) w = false
 unfoldable pub fits_code : ℕ → ℕ → Bool
 fits_code size m = eqb (m % 16) 0 && leb (m + 16) size
 
--- access without fitting guard
-unfoldable pub broken12 : ℕ → List ℕ → ℕ → View → Bool
-broken12 size img i v =
-    is_some v.width
-    && not (in_bundle i && (is_guarded_at img i 26 v.rs && fits_data size (mask_at img i) (offset_of v.value) (bytes_of v.width)))
+-- access whose guard words are missing or different
+unfoldable pub broken12 : List ℕ → ℕ → View → Bool
+broken12 img i v = is_some v.width && not (has_guard img i 26 v.rs)
+
+-- access whose guard words are right, but the mask or the offset isn't
+unfoldable pub broken22 : ℕ → List ℕ → ℕ → View → Bool
+broken22 size img i v =
+    is_some v.width && (has_guard img i 26 v.rs && not (fits_data size (mask_at img i) (offset_of v.value) (bytes_of v.width)))
 
 -- JR or JALR without fitting guard
 unfoldable pub broken13 : ℕ → List ℕ → ℕ → View → Bool
-broken13 size img i v = is_register v.flow && not (in_bundle i && (is_guarded_at img i 27 v.rs && fits_code size (mask_at img i)))
+broken13 size img i v = is_register v.flow && not (has_guard img i 27 v.rs && fits_code size (mask_at img i))
 
 -- ---- branches
 

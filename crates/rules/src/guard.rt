@@ -52,14 +52,21 @@ fn fits_code(size: u32, mask: u32) -> bool
 }
 
 #[tactic(auto, unfolding(crate::specs::Rules::broken12, crate::specs::Rules::guard_mask))]
-pub fn breaks12(data_size: u32, w: Word, v: View) -> bool
-    ensures { result ≡ Spec.broken12 data_size w.entry.image.now w.entry.index v }
+pub fn breaks12(w: Word, v: View) -> bool
+    ensures { result ≡ Spec.broken12 w.entry.image.now w.entry.index v }
+{
+    v.width.is_some() && mask_before(w, register::DATA_BASE, v.rs).is_none()
+}
+
+#[tactic(auto, unfolding(crate::specs::Rules::broken22, crate::specs::Rules::guard_mask))]
+pub fn breaks22(data_size: u32, w: Word, v: View) -> bool
+    ensures { result ≡ Spec.broken22 data_size w.entry.image.now w.entry.index v }
 {
     let Some(width) = v.width else {
         return false;
     };
     let guard = mask_before(w, register::DATA_BASE, v.rs);
-    guard.is_none_or(|mask| !fits_data(data_size, mask, v.value, width))
+    guard.is_some_and(|mask| !fits_data(data_size, mask, v.value, width))
 }
 
 #[tactic(auto, unfolding(crate::specs::Rules::broken13, crate::specs::Rules::guard_mask))]

@@ -13,8 +13,7 @@ use Rattle.class.specs.Class.{class_of}
 use Rattle.layout.specs.declared.Layout.{Layout}
 use Rattle.view.specs.View.{passes, is_region, seen}
 use Rattle.rules.specs.Rules.{word_at, view_at}
-use Rattle.checker.specs.declared.verdict.Verdict.{Verdict}
-use Rattle.checker.specs.Check.{broken_by}
+use Rattle.checker.specs.Check.{Trial, broken_by}
 use Rattle.checker.specs.Lawful.{flow_of}
 use Rattle.checker.proofs.Says.{Says, Denies, eqs, les, ands, ors, both, lacks, bars, picks, some_reading}
 use Rattle.checker.proofs.Reflection.{sole, registers, reading_at, every_word, some_word, targets, file_rules, word_rules}
@@ -62,7 +61,7 @@ module _ (l : Layout) (img : List ℕ) where
   unfolding is_straight_broken
   straight_rules n i = picks (eqb n 20) (rule20 l img i) (picks (eqb n 21) (endings _) (word_rules l img i n))
 
-pub straight_tests : (l : Layout) (len : ℕ) (img : List ℕ) (t : Verdict)
+pub straight_tests : (l : Layout) (len : ℕ) (img : List ℕ) (t : Trial)
     → Denies (StraightKeeps l len img t) (broken_by (is_straight_broken l img) l len img t)
 straight_tests l len img t =
-    picks (leb t.number 7) (file_rules l len img t.number) (straight_rules l img t.number t.place)
+    picks (leb t.number 7) (file_rules l len img t.number) (straight_rules l img t.number t.word)

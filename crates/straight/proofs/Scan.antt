@@ -12,7 +12,7 @@ use Rattle.std.specs.Prelude.{Option, Some, None}
 use Rattle.view.specs.View.{passes, is_relative, is_region, is_register, is_branch, is_jump}
 use Rattle.rules.specs.Rules.{view_at, view_before}
 use Rattle.checker.specs.declared.verdict.Verdict.{Verdict}
-use Rattle.checker.specs.Check.{verdict, no_place, in_turn, is_word_broken, first_of}
+use Rattle.checker.specs.Check.{Trial, trial, verdict, said, no_place, in_turn, is_word_broken, first_of}
 use Rattle.checker.specs.Refusal.{All}
 use Rattle.checker.specs.Scan.{word_refusal, number_of_branch, number_of_word, number_at, end_verdict, words_verdict, image_verdict, words_by}
 use Rattle.checker.proofs.Trials.{of_words}
@@ -49,18 +49,18 @@ module _ (l : Layout) (img : List ℕ) where
   word_first : (i : ℕ) → Gives (is_straight_broken l img) straight_at straight_after i (number_at of_branch l img i)
   unfolding is_straight_broken is_word_broken number_of_word
   word_first i ts =
-      let t : ℕ → Verdict = λ k. verdict k i in
+      let t : ℕ → Verdict = λ k. said (trial k i) in
       let o = view_at img i in
       let b = passes is_branch (view_before img i) in
-      let x = first_of (λ (u : Verdict). is_straight_broken l img u.number u.place) ts in
+      let x = first_of (λ (u : Trial). is_straight_broken l img u.number u.word) ts in
       let k = word_refusal l img i b o in
       seen_ladder t (cond (passes (broken20 l i) o) (t 20) x) l img i b o
       ∙ longer t x k _ (passes (broken20 l i) o) refl
       ∙ ap (λ (j : ℕ). given t x (cond (eqb k 0) j k)) (asked l i o)
 
-  ended : (n : ℕ) → first_of (λ (t : Verdict). is_straight_broken l img t.number t.place) (straight_after n) ≡ end_verdict of_whole l img n
+  ended : (n : ℕ) → first_of (λ (t : Trial). is_straight_broken l img t.number t.word) (straight_after n) ≡ end_verdict of_whole l img n
   unfolding is_straight_broken is_word_broken
-  ended n = ap (cond (not (passes is_jump (view_at img (n - 2)))) (verdict 16 (n - 2))) (last (broken21 l img))
+  ended n = ap (cond (not (passes is_jump (view_at img (n - 2)))) (said (trial 16 (n - 2)))) (last (broken21 l img))
     where
       last : (b : Bool) → cond b (verdict 21 no_place) (verdict 0 no_place) ≡ cond (eqb (cond b 21 0) 0) (verdict 0 no_place) (verdict (cond b 21 0) no_place)
       last true = refl

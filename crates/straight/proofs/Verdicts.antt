@@ -1,13 +1,14 @@
 -- What verdicts of the profile there are: their numbers, and the places that go with them.
 use Prim.Native.Nat.{ℕ, ◌≤◌, ◌<◌}
-use mathlib.Core.Path.{refl}
+use mathlib.Core.Path.{◌≡◌, refl}
 use mathlib.Core.Logic.{inl, inr, ⊎_elim}
 use mathlib.Core.List.{List, [], ◌∷◌}
 use native.Mathlib.Nat.{zero-add}
 use native.Mathlib.Omega.{arith}
 use Rattle.layout.specs.declared.Layout.{Layout}
 use Rattle.checker.specs.declared.verdict.Verdict.{Verdict}
-use Rattle.checker.specs.Check.{verdict, no_place, trials_at, trials_after, in_turn}
+use Rattle.rules.specs.Not.{Not}
+use Rattle.checker.specs.Check.{Trial, trial, verdict, said, no_place, trials_at, trials_after, in_turn}
 use Rattle.checker.specs.Lawful.{words_in}
 use Rattle.checker.specs.Refusal.{All, Told}
 use Rattle.checker.proofs.Trials.{join, implied, of_words}
@@ -21,30 +22,46 @@ module _ (l : Layout) where
   widened : (t : Verdict) → Told l t → StraightTold l t
   widened t h =
       record {
-        number_is = inl h.number_most;
-        no_word = λ p. h.no_word (⊎_elim (λ q. q) (λ q. absurd (omega (arith, h.number_most, q))) p);
+        number_is = ⊎_elim (λ p. inl p) (λ p. inr (inr (inr p))) h.number_is;
+        no_word = λ p. h.no_word (⊎_elim (λ q. q) (λ q. absurd (not_21 q)) p);
         a_word = λ p _. h.a_word p;
+        a_mask = h.a_mask;
       }
+    where
+      not_21 : Not (t.number ≡ 21)
+      not_21 q = ⊎_elim (λ p. omega (arith, p, q)) (λ p. omega (arith, p, q)) h.number_is
 
-  told_20 : (i : ℕ) → i < words_in l → StraightTold l (verdict 20 i)
+  told_20 : (i : ℕ) → i < words_in l → StraightTold l (said (trial 20 i))
   told_20 i h =
       record {
         number_is = inr (inl refl);
         no_word = λ p. ⊎_elim (λ q. absurd (omega (arith, q))) (λ q. absurd (omega (arith, q))) p;
         a_word = λ _ _. h;
+        a_mask = λ e. absurd (omega (arith, e));
       }
 
-  told_21 : StraightTold l (verdict 21 no_place)
-  told_21 = record { number_is = inr (inr refl); no_word = λ _. refl; a_word = λ _ n. absurd (n refl) }
+  told_21 : StraightTold l (said (trial 21 no_place))
+  told_21 =
+      record {
+        number_is = inr (inr (inl refl));
+        no_word = λ _. refl;
+        a_word = λ _ n. absurd (n refl);
+        a_mask = λ e. absurd (omega (arith, e));
+      }
 
-  words_told : 16 ≤ l.code_size → All (StraightTold l) (in_turn straight_at straight_after (words_in l) 0)
+  abbrev ToldBy : Trial → Type 0
+  ToldBy t = StraightTold l (said t)
+
+  -- the checker's trials are told as the profile tells
+  wider : (s : List Trial) → All (λ t. Told l (said t)) s → All ToldBy s
+  wider = implied (λ t. Told l (said t)) ToldBy (λ t. widened (said t))
+
+  words_told : 16 ≤ l.code_size → All ToldBy (in_turn straight_at straight_after (words_in l) 0)
   words_told h =
-      of_words (StraightTold l) straight_at straight_after (words_in l) 0 (
-        λ j _ q. join (StraightTold l) (trials_at j) (verdict 20 j ∷ [])
-            (implied (Told l) (StraightTold l) widened (trials_at j) (at_told l j (omega (arith, q)))) (told_20 j (omega (arith, q)), tt),
+      of_words ToldBy straight_at straight_after (words_in l) 0 (
+        λ j _ q. join ToldBy (trials_at j) (trial 20 j ∷ []) (wider (trials_at j) (at_told l j h (omega (arith, q)))) (told_20 j (omega (arith, q)), tt),
         rw zero-add
-            (join (StraightTold l) (trials_after (words_in l)) (verdict 21 no_place ∷ [])
-            (implied (Told l) (StraightTold l) widened (trials_after (words_in l)) (after_told l h)) (told_21, tt)),
+            (join ToldBy (trials_after (words_in l)) (trial 21 no_place ∷ []) (wider (trials_after (words_in l)) (after_told l h)) (told_21, tt)),
       )
 
   pub straight_told : (len : ℕ) (img : List ℕ) → StraightTold l (straight_of l len img)

@@ -6,11 +6,12 @@ use native.Mathlib.Omega.{arith}
 use Rattle.layout.specs.declared.Layout.{Layout}
 use Rattle.rules.specs.Not.{Not}
 use Rattle.checker.specs.declared.verdict.Verdict.{Verdict}
-use Rattle.checker.specs.Check.{verdict, no_place, accepted, file_trials, trials_at, trials_after, in_turn, trials_of, broken_by, first_of, check_of}
+use Rattle.checker.specs.Check.{Trial, trial, said, no_place, accepted, file_trials, trials_at, trials_after, in_turn, trials_of, broken_by, first_of, check_of}
 use Rattle.checker.specs.Lawful.{words_in, Lawful}
-use Rattle.checker.specs.Refusal.{Keeps, All}
+use Rattle.checker.specs.Refusal.{Keeps, All, Unguarded, Misfit}
 use Rattle.checker.proofs.Trials.{join, halves, of_words, to_words}
-use Rattle.checker.proofs.Whole.{Numbered, kept_accepted, accepted_kept, refused_at, first_found, zero_accepted, kept_lawful, lawful_kept, lawful_accepted}
+use Rattle.checker.proofs.Whole.{Numbered, Found, kept_accepted, accepted_kept, refused_at, first_found, zero_accepted, kept_lawful, lawful_kept, lawful_accepted}
+use Rattle.checker.proofs.Guarded.{told_12, told_22}
 use Rattle.straight.specs.Straight.{Straight}
 use Rattle.straight.specs.Check.{straight_at, straight_after, straight_trials, is_straight_broken, straight_of}
 use Rattle.straight.specs.Refusal.{StraightKeeps, StraightRefusal}
@@ -22,7 +23,7 @@ numbered l =
     (of_words Numbered straight_at straight_after (words_in l) 0 (λ j p q. omega arith, omega arith))
 
 module _ (l : Layout) (len : ℕ) (img : List ℕ) where
-  abbrev Kept : Verdict → Type 0
+  abbrev Kept : Trial → Type 0
   Kept = StraightKeeps l len img
 
   -- the trials of document 01, and what the profile adds
@@ -30,9 +31,9 @@ module _ (l : Layout) (len : ℕ) (img : List ℕ) where
   parted h =
       let s = halves Kept file_trials (in_turn straight_at straight_after (words_in l) 0) h in
       let w = to_words Kept straight_at straight_after (words_in l) 0 s.1 in
-      let at : (i : ℕ) → i < 0 + words_in l → All Kept (trials_at i) × All Kept (verdict 20 i ∷ []) =
-      λ i q. halves Kept (trials_at i) (verdict 20 i ∷ []) (w.0 i (omega arith) q) in
-      let after = halves Kept (trials_after (0 + words_in l)) (verdict 21 no_place ∷ []) w.1 in (
+      let at : (i : ℕ) → i < 0 + words_in l → All Kept (trials_at i) × All Kept (trial 20 i ∷ []) =
+      λ i q. halves Kept (trials_at i) (trial 20 i ∷ []) (w.0 i (omega arith) q) in
+      let after = halves Kept (trials_after (0 + words_in l)) (trial 21 no_place ∷ []) w.1 in (
         join (Keeps l len img) file_trials (in_turn trials_at trials_after (words_in l) 0) s.0
             (of_words (Keeps l len img) trials_at trials_after (words_in l) 0 (λ i p q. (at i q).0, after.0)),
         record { r20 = λ i p. (at i (omega (arith, p))).1.0; r21 = after.1.0 },
@@ -44,8 +45,8 @@ module _ (l : Layout) (len : ℕ) (img : List ℕ) where
       let w = to_words (Keeps l len img) trials_at trials_after (words_in l) 0 s.1 in
       join Kept file_trials (in_turn straight_at straight_after (words_in l) 0) s.0
       (of_words Kept straight_at straight_after (words_in l) 0 (
-        λ i p q. join Kept (trials_at i) (verdict 20 i ∷ []) (w.0 i p q) (r.r20 i (omega (arith, q)), tt),
-        join Kept (trials_after (0 + words_in l)) (verdict 21 no_place ∷ []) w.1 (r.r21, tt),
+        λ i p q. join Kept (trials_at i) (trial 20 i ∷ []) (w.0 i p q) (r.r20 i (omega (arith, q)), tt),
+        join Kept (trials_after (0 + words_in l)) (trial 21 no_place ∷ []) w.1 (r.r21, tt),
       ))
 
   all_kept : straight_of l len img ≡ accepted → All Kept (straight_trials l)
@@ -75,13 +76,25 @@ module _ (l : Layout) (len : ℕ) (img : List ℕ) where
   unfolding straight_of
   straight_number = zero_accepted (broken_by (is_straight_broken l img) l len img) (straight_trials l) (numbered l)
 
-  pub straight_refused_first : Not (straight_of l len img ≡ accepted) → StraightRefusal l len img (straight_of l len img)
+  pub straight_refused_first : Not (straight_of l len img ≡ accepted)
+      → (t : Trial) × (StraightRefusal l len img t × (straight_of l len img ≡ said t))
   unfolding straight_of
   straight_refused_first h = refused_at Kept (broken_by (is_straight_broken l img) l len img) (straight_tests l len img) (straight_trials l) h
 
   -- what the rules refuse is what the profile says
-  pub straight_refusal_unique : (t : Verdict) → StraightRefusal l len img t → straight_of l len img ≡ t
+  pub straight_refusal_unique : (t : Trial) → StraightRefusal l len img t → straight_of l len img ≡ said t
   unfolding straight_of
   straight_refusal_unique t r =
       ap (first_of (broken_by (is_straight_broken l img) l len img)) r.order
       ∙ first_found Kept (broken_by (is_straight_broken l img) l len img) (straight_tests l len img) r.before r.after t r.kept r.broken
+
+  -- ---- 12 and 22 tell what the checker's tell
+
+  found : {k : ℕ} → 0 < k → (straight_of l len img).number ≡ k → Found Kept (straight_trials l) (straight_of l len img)
+  found h e = straight_refused_first (λ a. omega (arith, h, e, ap (λ (v : Verdict). v.number) a))
+
+  pub straight_guard_told : (straight_of l len img).number ≡ 12 → Unguarded img (straight_of l len img).place
+  straight_guard_told e = told_12 Kept (found (omega arith) e) img (λ i h. h) e
+
+  pub straight_mask_told : (straight_of l len img).number ≡ 22 → Misfit l img ((straight_of l len img).place + 2)
+  straight_mask_told e = told_22 Kept (found (omega arith) e) l img (λ i h. h) e

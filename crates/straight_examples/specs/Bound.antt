@@ -3,8 +3,7 @@
 use Rattle.std.specs.Prelude.{ℕ, suc, List, [], ◌∷◌, ◌++◌, replicate}
 use Rattle.layout.specs.declared.Layout.{Layout}
 use Rattle.layout.specs.Layout.{layout_of}
-use Rattle.checker.specs.declared.verdict.Verdict.{Verdict}
-use Rattle.checker.specs.Check.{verdict, no_place, broken_by}
+use Rattle.checker.specs.Check.{Trial, trial, no_place, broken_by}
 use Rattle.straight.specs.Check.{straight_trials, is_straight_broken}
 use Rattle.effect.specs.Touched.{cell}
 use Rattle.confinement.specs.Events.{Event, Run, Resume}
@@ -19,7 +18,7 @@ pub record Timed : Type 0 where
   pub answer : Answer
 
 pub record Finding : Type 0 where
-  pub broken : List Verdict
+  pub broken : List Trial
   pub answers : List Answer
 
 abbrev pub timed : Timed → Finding
@@ -34,7 +33,7 @@ timed t =
 abbrev pub expected : Timed → Finding
 expected t = record { broken = t.row.broken; answers = t.answer ∷ [] }
 
-abbrev pub timed_in : Layout → List ℕ → List Verdict → ℕ → ℕ → Timed
+abbrev pub timed_in : Layout → List ℕ → List Trial → ℕ → ℕ → Timed
 timed_in l ws vs k n =
     record { row = record { layout = l; words = ws; state = start_of l 0; broken = vs; escape = Nothing }; answer = Ran k n (cell 0 0 0) }
 
@@ -58,7 +57,7 @@ sharp =
 -- ---- one rule broken: five steps of a module of eight words, and no exit
 
 abbrev pub runs_on : List ℕ → ℕ → ℕ → Timed
-runs_on ws n p = timed_in usual ws (verdict n p ∷ []) 0 5
+runs_on ws n p = timed_in usual ws (trial n p ∷ []) 0 5
 
 abbrev pub longer : List Timed
 longer =

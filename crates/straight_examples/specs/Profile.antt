@@ -121,8 +121,9 @@ cases =
     ∷ last syscall 0 (j 4) one (verdict 21 no_place)
     ∷ last syscall 0x00000040 (j 4) 0 (verdict 21 no_place)
     ∷ last syscall 0 (j 4) 0x00000040 (verdict 21 no_place)
-    -- an access there, which 12 refuses before the J is tried; 14 and 15 before 20, 20 before 8 of a later word, 16 before 21
+    -- an access there, which 12 refuses before the J is tried; 22, 14 and 15 before 20, 20 before 8 of a later word, 16 before 21
     ∷ both (0 ∷ 0 ∷ 0 ∷ 0 ∷ 0xAD090000 ∷ 0 ∷ j 4 ∷ 0 ∷ []) (verdict 12 4) (verdict 12 4)
+    ∷ both (0x31080040 ∷ 0x011A4025 ∷ 0xAD090000 ∷ beq 0 ∷ syscall ∷ 0 ∷ j 4 ∷ 0 ∷ []) (verdict 22 0) (verdict 22 0)
     ∷ both (beq 1 ∷ j 0 ∷ 0 ∷ 0 ∷ syscall ∷ 0 ∷ j 4 ∷ 0 ∷ []) (verdict 14 1) (verdict 14 1)
     ∷ both (j 8 ∷ 0 ∷ 0 ∷ 0 ∷ syscall ∷ 0 ∷ j 4 ∷ 0 ∷ []) (verdict 15 0) (verdict 15 0)
     ∷ both (beq 0 ∷ 0xFFFFFFFF ∷ 0 ∷ 0 ∷ syscall ∷ 0 ∷ j 4 ∷ 0 ∷ []) (verdict 20 0) (verdict 8 1)

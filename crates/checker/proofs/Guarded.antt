@@ -1,0 +1,102 @@
+-- Rules 12 and 22: together they are document 01's rule of data guards, and what a refusal by each of them tells (document 02, Ticket 5).
+use Prim.Native.Nat.{ℕ, ◌+◌, ◌-◌, ◌<◌}
+use mathlib.Core.Path.{◌≡◌, sym, subst, ap, ◌∙◌}
+use mathlib.Core.Bool.{not}
+use mathlib.Core.List.{List}
+use native.Mathlib.Omega.{arith}
+use Rattle.isa.specs.Width.{bytes_of}
+use Rattle.class.specs.Class.{width_accessed}
+use Rattle.layout.specs.declared.Layout.{Layout}
+use Rattle.view.specs.View.{seen, passes}
+use Rattle.rules.specs.Not.{Not}
+use Rattle.rules.specs.Offset.{offset_of}
+use Rattle.rules.specs.Rules.{view_at, fits_data, broken12, broken22}
+use Rattle.checker.specs.declared.verdict.Verdict.{Verdict}
+use Rattle.checker.specs.Check.{Trial, trial, named, trials_of, check_of}
+use Rattle.checker.specs.Lawful.{FitsData, width_of, Rule12, Rule22, FittingGuard, words_in}
+use Rattle.checker.specs.Refusal.{Unguarded, Misfit, Keeps}
+use Rattle.checker.proofs.Says.{Says, nots, ands, stops, held}
+use Rattle.checker.proofs.Reflection.{accesses, some_word, only_mask, guarded, guards, fits_data_law, rule12, rule22}
+use Rattle.checker.proofs.Whole.{Found, refused_first}
+
+-- ---- the two are one rule of document 01
+
+module _ (l : Layout) (img : List ℕ) (i : ℕ) where
+  pub together : Rule12 img i → Rule22 l img i → FittingGuard l img i
+  together a b x s u = let (m, g) = a x s u in (m, (g, b x s u m g))
+
+  pub apart : FittingGuard l img i → Rule12 img i × Rule22 l img i
+  apart f = (
+    λ x s u. let g = f x s u in (g.0, g.1.0),
+    λ x s u m g. let h = f x s u in
+        let e : h.0 ≡ m = only_mask img i 26 x.rs h.1.0 ∙ sym (only_mask img i 26 x.rs g) in
+        subst (λ (k : ℕ). FitsData l.data_size k (offset_of x.value) (width_of x)) e h.1.1,
+  )
+
+-- so that no module is lawful that was not, and none is not that was: of `Lawful` r12 and r22 alone are other
+module _ (l : Layout) (img : List ℕ) where
+  abbrev pub EveryWord : (ℕ → Type 0) → Type 0
+  EveryWord P = (i : ℕ) → i < words_in l → P i
+
+  pub same_modules : (EveryWord (FittingGuard l img) → EveryWord (Rule12 img) × EveryWord (Rule22 l img))
+      × (EveryWord (Rule12 img) × EveryWord (Rule22 l img) → EveryWord (FittingGuard l img))
+  same_modules = (
+    λ f. (λ i h. (apart l img i (f i h)).0, λ i h. (apart l img i (f i h)).1),
+    λ f i h. together l img i (f.0 i h) (f.1 i h),
+  )
+
+-- ---- what breaks them
+
+module _ (img : List ℕ) (i : ℕ) where
+  unguardeds : Says (Unguarded img i) (passes (broken12 img i) (view_at img i))
+  unfolding seen broken12
+  unguardeds =
+      some_word img i _ (broken12 img i) (λ x. ands (accesses (width_accessed x.kind)) (nots (guarded img i 26 x.rs)))
+
+  pub unguarded : Not (Rule12 img i) → Unguarded img i
+  unguarded n = held unguardeds (stops (rule12 img i) n)
+
+module _ (l : Layout) (img : List ℕ) (i : ℕ) where
+  misfits : Says (Misfit l img i) (passes (broken22 l.data_size img i) (view_at img i))
+  unfolding seen broken22
+  misfits =
+      some_word img i _ (broken22 l.data_size img i)
+      (λ x. ands (accesses (width_accessed x.kind))
+      (guards img i 26 x.rs _ (λ m. not (fits_data l.data_size m (offset_of x.value) (bytes_of (width_accessed x.kind)))) (λ m. nots (fits_data_law _ m _ _))))
+
+  -- the ANDI is the word two before the access
+  pub misfit : Not (Rule22 l img i) → Misfit l img (i - 2 + 2)
+  misfit n =
+      let m = held misfits (stops (rule22 l img i) n) in
+      let e : i ≡ i - 2 + 2 = omega (arith, m.1.1.1.1.0.0) in
+      subst (Misfit l img) e m
+
+-- ---- what is told of them: 12 at the access, 22 at the ANDI of its guard
+
+module _ (P : Trial → Type 0) {ts : List Trial} {v : Verdict} (f : Found P ts v) where
+  -- the trial of number k is broken at some word, and the verdict names what k names there
+  told : (k : ℕ) → v.number ≡ k → (i : ℕ) × (Not (P (trial k i)) × (v.place ≡ named k i))
+  told k e =
+      let (t, (r, q)) = f in
+      let n : t.number ≡ k = ap (λ (u : Verdict). u.number) (sym q) ∙ e in
+      (t.word, (subst (λ (j : ℕ). Not (P (trial j t.word))) n r.broken, ap (λ (u : Verdict). u.place) q ∙ ap (λ (j : ℕ). named j t.word) n))
+
+  pub told_12 : (img : List ℕ) → ((i : ℕ) → Rule12 img i → P (trial 12 i)) → v.number ≡ 12 → Unguarded img v.place
+  told_12 img g e =
+      let (i, (n, p)) = told 12 e in
+      subst (Unguarded img) (sym p) (unguarded img i (λ h. n (g i h)))
+
+  pub told_22 : (l : Layout) (img : List ℕ) → ((i : ℕ) → Rule22 l img i → P (trial 22 i)) → v.number ≡ 22 → Misfit l img (v.place + 2)
+  told_22 l img g e =
+      let (i, (n, p)) = told 22 e in
+      subst (λ (k : ℕ). Misfit l img (k + 2)) (sym p) (misfit l img i (λ h. n (g i h)))
+
+module _ (l : Layout) (len : ℕ) (img : List ℕ) where
+  found : {k : ℕ} → 0 < k → (check_of l len img).number ≡ k → Found (Keeps l len img) (trials_of l) (check_of l len img)
+  found h e = refused_first l len img (λ a. omega (arith, h, e, ap (λ (v : Verdict). v.number) a))
+
+  pub guard_told : (check_of l len img).number ≡ 12 → Unguarded img (check_of l len img).place
+  guard_told e = told_12 (Keeps l len img) (found (omega arith) e) img (λ i h. h) e
+
+  pub mask_told : (check_of l len img).number ≡ 22 → Misfit l img ((check_of l len img).place + 2)
+  mask_told e = told_22 (Keeps l len img) (found (omega arith) e) l img (λ i h. h) e
