@@ -112,11 +112,14 @@ INLINE int guarded(const struct module *m, uint32_t i, uint32_t r, uint32_t base
     return (andi & 0xFC1F0000) == (0x30000000 | r << 16) && word(m, i - 1) == (0x25 | r << 21 | base << 16 | r << 11);
 }
 
+/* An access, tried with 12 and 22. */
 INLINE uint32_t access(const struct module *m, uint32_t i, uint32_t w, uint32_t width)
 {
     uint32_t mask, offset = VALUE;
-    if (!guarded(m, i, RS, DATA, &mask) || offset > 0x7FFF || ((mask | offset) & (width - 1)) || mask + offset + width > m->data_size)
+    if (!guarded(m, i, RS, DATA, &mask))
         return CC100_REFUSED_ACCESS;
+    if (offset > 0x7FFF || ((mask | offset) & (width - 1)) || mask + offset + width > m->data_size)
+        return CC100_REFUSED_MASK;
     return CC100_DONE;
 }
 
@@ -173,7 +176,7 @@ INLINE uint32_t control(uint32_t w)
     return CC100_REFUSED_NO_INSTRUCTION;
 }
 
-/* The first of 9, 11 to 15 and 20 that a word of no ordinary form breaks, or 0; or 8, for a word of opcode 16. */
+/* The first of 9, 11, 12, 22, 13 to 15 and 20 that a word of no ordinary form breaks, or 0; or 8, for a word of opcode 16. */
 INLINE uint32_t broken(const struct module *m, uint32_t i, uint32_t w, enum form form, int after)
 {
     switch (form) {
@@ -216,7 +219,7 @@ INLINE struct cc100_verdict words(const struct module *m)
         if (e->form == ORDINARY)
             continue;
         if ((number = broken(m, i, w, e->form, i == slot)))
-            return made(number, i);
+            return made(number, number == CC100_REFUSED_MASK ? i - 2 : i); /* 22 names the guard's ANDI */
         if (e->form >= BRANCH)
             slot = i + 1;
     }

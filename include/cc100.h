@@ -48,7 +48,7 @@ extern "C" {
 #define CC100_REFUSED_PRIVILEGED 9u     /* MFC0, MTC0, RFE, or BREAK with code 15 */
 #define CC100_REFUSED_BASE_REGISTER 10u /* register 26 or 27 is written */
 #define CC100_REFUSED_LINK 11u          /* JALR with rd = rs, or BLTZAL or BGEZAL with rs = 31 */
-#define CC100_REFUSED_ACCESS 12u        /* an access without fitting guard */
+#define CC100_REFUSED_ACCESS 12u        /* an access without its guard words, ANDI R,S,m and OR R,R,26 with R its base and not 0, 26 or 27 */
 #define CC100_REFUSED_JUMP 13u          /* JR or JALR without fitting guard */
 #define CC100_REFUSED_SLOT 14u          /* a branch or jump straight after a branch or jump */
 #define CC100_REFUSED_TARGET 15u        /* a direct target outside the code, on its last word, or on or just before an access, JR or JALR */
@@ -58,6 +58,7 @@ extern "C" {
 #define CC100_REFUSED_RESUME 19u        /* a resume where the step does not end in 40, 46, 47 or 48 */
 #define CC100_REFUSED_STRAIGHT 20u      /* JR or JALR, or a direct target less than two words ahead or past the last bundle's start */
 #define CC100_REFUSED_LAST_BUNDLE 21u   /* the last bundle is not SYSCALL with code 0, a zero word, J to its own start, a zero word */
+#define CC100_REFUSED_MASK 22u          /* an access with its guard words whose mask m or offset breaks a multiple, sign or size rule */
 
 #define CC100_NO_PLACE 0xFFFFFFFFu /* the place of a verdict that names no word */
 
@@ -112,8 +113,9 @@ static inline void cc100_set_word(uint8_t *bytes, uint32_t word)
     bytes[3] = (uint8_t)(word >> 24);
 }
 
-/* What the checker says of a module: `number` is CC100_DONE, which accepts it, or a refusal, 1 to 16, and of a straight-through module also 20
-   or 21. `place` is the index of the word that 8 to 16 and 20 refuse, and else CC100_NO_PLACE. */
+/* What the checker says of a module: `number` is CC100_DONE, which accepts it, or a refusal, 1 to 16 or 22, and of a straight-through module also
+   20 or 21. `place` is the index of the word that 8 to 16 and 20 refuse; of 22 that of the guard's ANDI, two words before the access; and else
+   CC100_NO_PLACE. */
 typedef struct cc100_verdict {
     uint32_t number, place;
 } cc100_verdict;
@@ -145,8 +147,8 @@ typedef struct cc100_written {
 
 /* Checks a module before it is placed. `image` is its code, words little-endian. The layout is where it is to run: the memory's length, and
    the base and size of the areas for code and data; docs/REFUSALS.md says what each refusal means.
-   Refuses 1 to 7, in this order, by the layout and the image's length; then by the words from index 0 up, each tried with 8 to 15 in this
-   order; then 16, whose place is that of the last word but one. The image is only read. */
+   Refuses 1 to 7, in this order, by the layout and the image's length; then by the words from index 0 up, each tried with 8 to 12, 22 and 13 to
+   15 in this order; then 16, whose place is that of the last word but one. The image is only read. */
 cc100_verdict cc100_check(uint64_t memory_length, uint32_t code_base, uint32_t code_size, uint32_t data_base, uint32_t data_size,
                           const uint8_t *image, size_t image_length);
 

@@ -1,4 +1,4 @@
-/* The checker: document 01's sections on a module, its guards and the refusal table, and the profile of ticket 2 of document 02. */
+/* The checker: document 01's sections on a module, its guards and the refusal table, and tickets 2 and 5 of document 02. */
 #include <inttypes.h>
 #include <stdio.h>
 
@@ -149,15 +149,22 @@ static bool guarded(const struct em_module *m, size_t index, uint32_t base, uint
     return placing.kind == OR && placing.rd == base && placing.rs == base && placing.rt == area;
 }
 
+/* "Keep 12 for missing or different guard words, with a wrong R counted there." */
 static bool rule_12(const struct em_module *m, size_t index)
+{
+    struct em_instruction i = at(m, index);
+    uint32_t mask;
+    return em_access_width(i.kind) != 0 && !guarded(m, index, i.rs, DATA_BASE, &mask);
+}
+
+/* "22 when the guard words are right but mask or offset breaks a multiple, sign or size rule" */
+static bool rule_22(const struct em_module *m, size_t index)
 {
     struct em_instruction i = at(m, index);
     uint32_t width = em_access_width(i.kind), mask;
     int64_t offset = em_signed_number(i.value, 16);
-    if (width == 0)
+    if (width == 0 || !guarded(m, index, i.rs, DATA_BASE, &mask))
         return false;
-    if (!guarded(m, index, i.rs, DATA_BASE, &mask))
-        return true;
     return mask % width != 0 || offset % width != 0 || offset < 0 || mask + offset + width > m->data_size;
 }
 
@@ -238,7 +245,23 @@ static bool rule_21(const struct em_module *m)
 }
 
 static layout_rule *const layout_rules[] = {rule_1, rule_2, rule_3, rule_4, rule_5, rule_6, rule_7};
-static word_rule *const word_rules[] = {rule_8, rule_9, rule_10, rule_11, rule_12, rule_13, rule_14, rule_15};
+
+/* What is tried at each word, in this order: a rule, its number, and how many words before the tried one it has its place. 22 is tried "directly
+   after 12 with the ANDI word's index as its place", and that is two words before the access. */
+static const struct trial {
+    uint32_t number;
+    word_rule *broken;
+    uint32_t back;
+} trials[] = {
+    {8, rule_8, 0}, {9, rule_9, 0}, {10, rule_10, 0}, {11, rule_11, 0}, {12, rule_12, 0}, {22, rule_22, 2}, {13, rule_13, 0},
+    {14, rule_14, 0}, {15, rule_15, 0}, {20, rule_20, 0},
+};
+
+/* The last of them, 20, is tried of straight-through modules alone. */
+static size_t trial_count(bool straight)
+{
+    return sizeof trials / sizeof *trials - !straight;
+}
 
 /* The rules of 1 to 7 that are broken, bit n for rule n. */
 static uint32_t broken_by_layout(const struct em_module *m)
@@ -249,36 +272,47 @@ static uint32_t broken_by_layout(const struct em_module *m)
     return broken;
 }
 
-/* The rules of 8 to 15 that are broken at a word, and of a straight-through module also 20. */
+/* The rules for words that are broken at one, in the same way. */
 static uint32_t broken_by_word(const struct em_module *m, bool straight, size_t index)
 {
     uint32_t broken = 0;
-    for (uint32_t n = 8; n <= 15; n++)
-        broken |= (uint32_t)word_rules[n - 8](m, index) << n;
-    return broken | (uint32_t)(straight && rule_20(m, index)) << 20;
+    for (size_t n = 0; n < trial_count(straight); n++)
+        broken |= (uint32_t)trials[n].broken(m, index) << trials[n].number;
+    return broken;
 }
 
-static uint32_t first(uint32_t broken)
+/* The first of 1 to 7 that is broken, or 0. */
+static uint32_t try_layout(const struct em_module *m)
 {
-    uint32_t n = 0;
-    while (broken != 0 && (broken >> n & 1) == 0)
+    uint32_t n = 1;
+    while (n <= 7 && !layout_rules[n - 1](m))
         n++;
-    return n;
+    return n <= 7 ? n : 0;
+}
+
+/* The first rule that is broken at a word, with its place, or 0. */
+static uint32_t try_word(const struct em_module *m, bool straight, size_t index, uint32_t *place)
+{
+    size_t n = 0;
+    while (n < trial_count(straight) && !trials[n].broken(m, index))
+        n++;
+    if (n == trial_count(straight))
+        return 0;
+    *place = (uint32_t)index - trials[n].back;
+    return trials[n].number;
 }
 
 static uint32_t check(const struct em_module *m, bool straight, uint32_t *place)
 {
     *place = EM_NO_PLACE;
-    uint32_t broken = broken_by_layout(m);
-    if (broken != 0)
-        return first(broken);
-    size_t index = 0, words = word_count(m);
-    while (index < words && (broken = broken_by_word(m, straight, index)) == 0)
-        index++;
-    if (index < words) {
-        *place = (uint32_t)index;
-        return first(broken);
-    }
+    uint32_t number = try_layout(m);
+    size_t words = word_count(m);
+    if (number != 0)
+        return number;
+    for (size_t index = 0; index < words && number == 0; index++)
+        number = try_word(m, straight, index, place);
+    if (number != 0)
+        return number;
     if (!rule_16(m))
         return straight && rule_21(m) ? 21 : 0;
     *place = (uint32_t)words - 2;

@@ -55,12 +55,24 @@ static const struct calls straight_calls = {"cc100_check_straight", "plain_check
 /* The image that was lent to the last check. */
 static struct lent image;
 
+/* Of an access's two refusals, 12 names the access, and 22 the ANDI of its guard, two words before it. */
+static void look_at_place(const struct module *m, uint32_t number, uint32_t place)
+{
+    now.call = "the emulator's checker";
+    if (number == CC100_REFUSED_ACCESS)
+        same_number("an access is at the place", 1, (uint64_t)(place < word_count(m) && access_width(kind_at(m, place))));
+    if (number == CC100_REFUSED_MASK)
+        same_number("an ANDI is at the place, and an access two words on", 1,
+                    (uint64_t)(place + 2 < word_count(m) && kind_at(m, place) == ANDI && access_width(kind_at(m, place + 2))));
+}
+
 /* Gives the emulator's number and place. */
 static uint32_t compare(em_checker *check, const struct calls *c, const struct module *m, uint32_t *place)
 {
     static struct lent expected;
     struct em_module e = emulated(m, &expected);
     uint32_t number = check(&e, place);
+    look_at_place(m, number, *place);
     if (!image.bytes)
         image = room_for(sizeof m->words);
     copy_lent(&image, &expected);

@@ -1,6 +1,6 @@
-/* Document 01's own answers, written down from it by hand: its marked cases C1 to C12, and every example of its refusal table; and the accesses,
-   the straight-through modules and the divisions of tickets 1, 2 and 4 of document 02. The emulator is tried on them, as all else here trusts
-   it, and the product and plain C beside it. */
+/* Document 01's own answers, written down from it by hand: its marked cases C1 to C12, C10 and C11 as ticket 5 of document 02 has them, and every
+   example of its refusal table; and the accesses, the straight-through modules, the divisions and the guards of tickets 1, 2, 4 and 5. The
+   emulator is tried on them, as all else here trusts it, and the product and plain C beside it. */
 #include <string.h>
 
 #include "harness.h"
@@ -151,8 +151,8 @@ struct module_case {
 
 static const struct module_case module_cases[] = {
     {"C9 module M", EXAMPLE, {0x3108003C, 0x011A4025, 0xAD090000, 0x0000000C, 0, 0, 0x08004000, 0}, 0, NONE},
-    {"C10 M, mask 0x3F", EXAMPLE, {0x3108003F, 0x011A4025, 0xAD090000, 0x0000000C, 0, 0, 0x08004000, 0}, 12, 2},
-    {"C11 M, mask 0x40", EXAMPLE, {0x31080040, 0x011A4025, 0xAD090000, 0x0000000C, 0, 0, 0x08004000, 0}, 12, 2},
+    {"C10 M, mask 0x3F", EXAMPLE, {0x3108003F, 0x011A4025, 0xAD090000, 0x0000000C, 0, 0, 0x08004000, 0}, 22, 0},
+    {"C11 M, mask 0x40", EXAMPLE, {0x31080040, 0x011A4025, 0xAD090000, 0x0000000C, 0, 0, 0x08004000, 0}, 22, 0},
     {"C12 M, jump to word 1", EXAMPLE, {0x3108003C, 0x011A4025, 0xAD090000, 0x0000000C, 0, 0, 0x08004001, 0}, 15, 6},
     {"1 memory of 16,777,217 bytes", 16777217, 0x10000, 32, 0x20000, 64, 32, QUIET, 1, NONE},
     {"2 code size 24", 196608, 0x10000, 24, 0x20000, 64, 32, QUIET, 2, NONE},
@@ -206,6 +206,53 @@ static const struct module_case straight_cases[] = {
     {"20 before 8 at a later word", EXAMPLE, {0x1000FFFF, 0xFFFFFFFF, 0, 0, LAST_BUNDLE}, 20, 0},
     {"8 before 20 at a later word", EXAMPLE, {0xFFFFFFFF, 0x1000FFFF, 0, 0, LAST_BUNDLE}, 8, 0},
     {"7 before 20", 196608, 0x10000, 32, 0x20000, 64, 28, {0x1000FFFF, 0, 0, 0, LAST_BUNDLE}, 7, NONE},
+};
+
+/* The same for ticket 5, in modules that the profile takes too: the first bundle, and behind it the last one. */
+#define ANDI_8(mask) (0x31080000 | (mask)) /* ANDI 8,8,mask */
+#define OR_8 0x011A4025                    /* OR 8,8,26 */
+#define SW_9 0xAD090000                    /* SW 9,0(8), and with an offset added to it */
+#define SH_9 0xA5090000
+#define LB_9 0x81090000
+
+static const struct module_case guard_cases[] = {
+    {"SW, mask no multiple", EXAMPLE, {ANDI_8(0x3E), OR_8, SW_9, 0, LAST_BUNDLE}, 22, 0},
+    {"SH, mask no multiple", EXAMPLE, {ANDI_8(0x3D), OR_8, SH_9, 0, LAST_BUNDLE}, 22, 0},
+    {"SH, mask a multiple of 2 alone", EXAMPLE, {ANDI_8(0x3E), OR_8, SH_9, 0, LAST_BUNDLE}, 0, NONE},
+    {"SW, offset no multiple", EXAMPLE, {ANDI_8(0x38), OR_8, SW_9 | 2, 0, LAST_BUNDLE}, 22, 0},
+    {"SH, offset no multiple", EXAMPLE, {ANDI_8(0x30), OR_8, SH_9 | 1, 0, LAST_BUNDLE}, 22, 0},
+    {"SW, offset -4", EXAMPLE, {ANDI_8(0x3C), OR_8, SW_9 | 0xFFFC, 0, LAST_BUNDLE}, 22, 0},
+    {"SW, offset -2", EXAMPLE, {ANDI_8(0x3C), OR_8, SW_9 | 0xFFFE, 0, LAST_BUNDLE}, 22, 0},
+    {"LB, offset -32,768", EXAMPLE, {ANDI_8(0x3F), OR_8, LB_9 | 0x8000, 0, LAST_BUNDLE}, 22, 0},
+    {"LB, sum of 64", EXAMPLE, {ANDI_8(0x3E), OR_8, LB_9 | 1, 0, LAST_BUNDLE}, 0, NONE},
+    {"LB, sum of 65 by the offset", EXAMPLE, {ANDI_8(0x3F), OR_8, LB_9 | 1, 0, LAST_BUNDLE}, 22, 0},
+    {"LB, sum of 65 by the mask", EXAMPLE, {ANDI_8(0x40), OR_8, LB_9, 0, LAST_BUNDLE}, 22, 0},
+    {"SW, sum of 68 by the offset", EXAMPLE, {ANDI_8(0x3C), OR_8, SW_9 | 4, 0, LAST_BUNDLE}, 22, 0},
+    {"SW in the fourth word", EXAMPLE, {0, ANDI_8(0x3F), OR_8, SW_9, LAST_BUNDLE}, 22, 1},
+    {"22, and then no instruction", EXAMPLE, {ANDI_8(0x3F), OR_8, SW_9, 0xFFFFFFFF, LAST_BUNDLE}, 22, 0},
+    {"no instruction, and then 22", EXAMPLE, {0xFFFFFFFF, ANDI_8(0x3F), OR_8, SW_9, LAST_BUNDLE}, 8, 0},
+    {"12, and then 22", EXAMPLE, {SW_9, ANDI_8(0x3F), OR_8, SW_9, LAST_BUNDLE}, 12, 0},
+    {"22, and then 12", EXAMPLE, {ANDI_8(0x3F), OR_8, SW_9, SW_9, LAST_BUNDLE}, 22, 0},
+    {"LW 26 with a wrong mask", EXAMPLE, {ANDI_8(0x3F), OR_8, 0x8D1A0000, 0, LAST_BUNDLE}, 10, 2},
+    {"no ANDI", EXAMPLE, {0, OR_8, SW_9 | 1, 0, LAST_BUNDLE}, 12, 2},
+    {"ORI for ANDI", EXAMPLE, {0x3508003F, OR_8, SW_9, 0, LAST_BUNDLE}, 12, 2},
+    {"ANDI 9,8 with a wrong mask", EXAMPLE, {0x3109003F, OR_8, SW_9, 0, LAST_BUNDLE}, 12, 2},
+    {"OR 8,9,26", EXAMPLE, {ANDI_8(0x3F), 0x013A4025, SW_9, 0, LAST_BUNDLE}, 12, 2},
+    {"OR 9,8,26", EXAMPLE, {ANDI_8(0x3F), 0x011A4825, SW_9, 0, LAST_BUNDLE}, 12, 2},
+    {"OR 8,8,27", EXAMPLE, {ANDI_8(0x3F), 0x011B4025, SW_9, 0, LAST_BUNDLE}, 12, 2},
+    {"OR 8,26,8", EXAMPLE, {ANDI_8(0x3F), 0x03484025, SW_9, 0, LAST_BUNDLE}, 12, 2},
+    {"ADDU for OR", EXAMPLE, {ANDI_8(0x3F), 0x011A4021, SW_9, 0, LAST_BUNDLE}, 12, 2},
+    {"R is 0", EXAMPLE, {0x3100003F, 0x001A0025, 0xAC090000, 0, LAST_BUNDLE}, 12, 2},
+    {"base is 9", EXAMPLE, {ANDI_8(0x3F), OR_8, 0xAD290000, 0, LAST_BUNDLE}, 12, 2},
+    {"base is 26", EXAMPLE, {ANDI_8(0x3F), OR_8, 0xAF490000, 0, LAST_BUNDLE}, 12, 2},
+    {"base is 27", EXAMPLE, {ANDI_8(0x3F), OR_8, 0xAF690000, 0, LAST_BUNDLE}, 12, 2},
+    {"R is 26: its ANDI is refused before", EXAMPLE, {0x311A003F, 0x035AD025, 0xAF490000, 0, LAST_BUNDLE}, 10, 0},
+    {"a word between the guard and SW", EXAMPLE, {ANDI_8(0x3F), OR_8, 0, SW_9, LAST_BUNDLE}, 12, 3},
+    {"SW in the next bundle", EXAMPLE, {0, 0, ANDI_8(0x3F), OR_8, SW_9, 0, 0x08004004, 0}, 12, 4},
+    {"OR and SW in the next bundle", EXAMPLE, {0, 0, 0, ANDI_8(0x3F), OR_8, SW_9, 0x08004004, 0}, 12, 5},
+    {"JR, mask no multiple", EXAMPLE, {ANDI_8(0x1F), 0x011B4025, 0x01000008, 0, LAST_BUNDLE}, 13, 2},
+    {"JALR, mask too large", EXAMPLE, {ANDI_8(0x20), 0x011B4025, 0x0100F809, 0, LAST_BUNDLE}, 13, 2},
+    {"JR with OR 8,8,26", EXAMPLE, {ANDI_8(0x3F), OR_8, 0x01000008, 0, LAST_BUNDLE}, 13, 2},
 };
 
 static void try_module(const struct profile *p, const struct module_case *c)
@@ -262,7 +309,10 @@ void test_documents(void)
         try_module(&usual, &module_cases[i]);
     for (size_t i = 0; i < COUNT(straight_cases); i++)
         try_module(&straight, &straight_cases[i]);
+    for (size_t i = 0; i < 2 * COUNT(guard_cases); i++)
+        try_module(i % 2 ? &straight : &usual, &guard_cases[i / 2]);
     other_refusals();
-    end_part("%zu steps and %zu modules with document 01's answers, %zu accesses, %zu divisions and %zu straight-through modules with document 02's",
-             COUNT(step_cases) + 2, COUNT(module_cases), COUNT(access_cases), COUNT(division_cases), COUNT(straight_cases));
+    end_part("%zu steps and %zu modules with document 01's answers, %zu accesses, %zu divisions, %zu straight-through modules and %zu guards with "
+             "document 02's", COUNT(step_cases) + 2, COUNT(module_cases), COUNT(access_cases), COUNT(division_cases), COUNT(straight_cases),
+             COUNT(guard_cases));
 }

@@ -101,7 +101,7 @@ struct module {
 void copy_module(struct module *to, const struct module *from);
 
 /* An accepted module in a random layout, with at most so many bytes of memory outside code and data; and a straight-through one. And new words,
-   `count` of them, for the layout that a module has: they keep rules 8 to 16, also where the layout breaks one of 1 to 7. */
+   `count` of them, for the layout that a module has: they keep rules 8 to 16 and 22, also where the layout breaks one of 1 to 7. */
 typedef void maker(struct module *m, uint32_t most_memory);
 maker make_accepted, make_straight;
 void make_words(struct module *m, uint32_t count);
@@ -151,14 +151,15 @@ struct way {
     uint32_t detail;
     int slow;
 };
-extern const struct way layout_ways[], word_ways[], guard_ways[], straight_ways[]; /* each ends with rule 0 */
+extern const struct way layout_ways[], word_ways[], access_ways[], jump_ways[], straight_ways[]; /* each ends with rule 0 */
 
 /* A way that breaks other rules too, bit n for rule n: its own is the one that is named. */
 struct combined {
     struct way way;
     uint32_t also;
 };
-extern const struct combined straight_combined[]; /* ends with rule 0 */
+#define RULE(n) (1u << (n))
+extern const struct combined access_combined[], straight_combined[]; /* each ends with rule 0 */
 
 /* Puts ordinary words into bundles that are not the last. Gives the index of the first word, or NOWHERE where the module is too short. */
 #define NOWHERE 0xFFFFFFFFu

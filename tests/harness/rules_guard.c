@@ -1,11 +1,14 @@
-/* Ways to break rule 12 or 13 and no other: an access, JR or JALR whose guard is nearly right. */
+/* Ways to break rule 12, 13 or 22 and no other: an access, JR or JALR whose guard is nearly right. */
 #include "harness.h"
 
 enum {
     NO_GUARD, EARLIER_BUNDLE, BETWEEN, OTHER_ORDER, NO_ANDI, NO_OR, ZERO, BASE_IS_26, BASE_IS_27, OTHER_BASE, OTHER_ANDI, OTHER_SOURCE,
-    OTHER_RESULT, OTHER_AREA, SWAPPED, MASK_NO_MULTIPLE, MASK_TOO_LARGE, OFFSET_NO_MULTIPLE, OFFSET_NEGATIVE, OFFSET_TOO_LARGE
+    OTHER_RESULT, OTHER_AREA, SWAPPED, MASK_NO_MULTIPLE, MASK_TOO_LARGE, OFFSET_NO_MULTIPLE, OFFSET_NEGATIVE, OFFSET_ODD_NEGATIVE,
+    OFFSET_TOO_LARGE, SUM_PAST_16_BITS, ALL_NUMBERS
 };
+/* A way, the kind that is guarded, and of wrong words also wrong numbers. */
 #define OF_KIND(way, kind) ((way) | (kind) << 8)
+#define WRONG_NUMBERS 0x10000u
 #define ANY_ACCESS 0
 
 /* The guard and what is guarded: three words in a fresh bundle, where another fresh one follows. */
@@ -71,33 +74,52 @@ static void change_registers(const struct nearly *n, uint32_t way)
     }
 }
 
-/* The numbers of the guard, each wrong in one respect only. Gives whether that could be. */
+static void set_offset(const struct nearly *n, uint32_t offset) { n->w[2] = with_field(n->w[2], CONSTANT, offset); }
+
+/* Makes a number of a word a little smaller, so that it is no multiple. Gives whether that could be. */
+static int take_off(const struct nearly *n, uint32_t *word, uint32_t number)
+{
+    int could = n->unit > 1 && number >= n->unit;
+    *word -= could ? 1 + below(n->unit - 1) : 0;
+    return could;
+}
+
+/* The numbers of the guard, each wrong in one respect only, but for the last way, where all are wrong. Gives whether that could be. */
 static int change_numbers(const struct nearly *n, uint32_t way)
 {
-    uint32_t mask = mask_of(n), offset = offset_of(n), off = n->unit == 1 ? 0 : 1 + below(n->unit - 1), rest = n->size - offset;
+    uint32_t mask = mask_of(n), offset = offset_of(n), rest = n->size - offset, below_zero = 0 - n->unit * (1 + below(0x8000 / n->unit));
     switch (way) {
-    case MASK_NO_MULTIPLE:
-        n->w[0] -= mask >= n->unit ? off : 0;
-        return off > 0 && mask >= n->unit;
+    case MASK_NO_MULTIPLE: return take_off(n, &n->w[0], mask);
     case MASK_TOO_LARGE:
         n->w[0] = with_field(n->w[0], CONSTANT, rest);
         return rest <= CONSTANT;
-    case OFFSET_NO_MULTIPLE:
-        n->w[2] -= offset >= n->unit ? off : 0;
-        return off > 0 && offset >= n->unit;
-    case OFFSET_NEGATIVE:
-        n->w[2] = with_field(n->w[2], CONSTANT, 0 - n->unit * (1 + below(4)));
+    case OFFSET_NO_MULTIPLE: return take_off(n, &n->w[2], offset);
+    case OFFSET_NEGATIVE: set_offset(n, below(2) ? below_zero : 0 - n->unit * (1 + below(4))); return 1;
+    case OFFSET_ODD_NEGATIVE: set_offset(n, below_zero + 1 + below(n->unit - 1)); return n->unit > 1;
+    case SUM_PAST_16_BITS:
+        n->w[0] = with_field(n->w[0], CONSTANT, 0x10000 - offset);
+        return offset > 0;
+    case ALL_NUMBERS:
+        n->w[0] |= CONSTANT;
+        set_offset(n, 0x8001 + 2 * below(0x4000));
         return 1;
-    default:
-        n->w[2] = with_field(n->w[2], CONSTANT, n->size - mask);
-        return n->size - mask <= 0x7FFF;
+    default: set_offset(n, n->size - mask); return n->size - mask <= 0x7FFF;
     }
+}
+
+/* One of the ways in which numbers are wrong; where it cannot be, all of them. Of JR and JALR the mask alone is one. */
+static void change_some_numbers(const struct nearly *n)
+{
+    if (n->unit == 16)
+        n->w[0] |= CONSTANT;
+    else if (!change_numbers(n, MASK_NO_MULTIPLE + below(ALL_NUMBERS - MASK_NO_MULTIPLE)))
+        change_numbers(n, ALL_NUMBERS);
 }
 
 static uint32_t put_guarded(struct module *m, uint32_t at, uint32_t kind)
 {
-    if (kind == ANY_ACCESS) {
-        uint32_t access = random_access(m->data_size);
+    uint32_t access = kind == ANY_ACCESS ? random_access(m->data_size) : kind;
+    if (access_width(access)) {
         put_access(m, at, access);
         return (uint32_t)access_width(access);
     }
@@ -116,13 +138,15 @@ static uint32_t other_register(const uint32_t *w)
 
 static int change_guard(struct module *m, uint32_t detail)
 {
-    uint32_t way = detail & 0xFF, kind = detail >> 8, at = fresh_bundles(m, 2), moved = way <= OTHER_ORDER;
+    uint32_t way = detail & 0xFF, kind = detail >> 8 & 0xFF, at = fresh_bundles(m, 2), moved = way <= OTHER_ORDER;
     if (at == NOWHERE)
         return 0;
     at += moved ? 0 : below(2);
     uint32_t unit = put_guarded(m, at, kind);
-    struct nearly n = {&m->words[at], unit, kind == ANY_ACCESS ? m->data_size : m->code_size, other_register(&m->words[at])};
+    struct nearly n = {&m->words[at], unit, unit == 16 ? m->code_size : m->data_size, other_register(&m->words[at])};
     int could = 1;
+    if (detail & WRONG_NUMBERS)
+        change_some_numbers(&n);
     if (moved)
         move_words(n.w, way);
     else if (way < MASK_NO_MULTIPLE)
@@ -133,30 +157,64 @@ static int change_guard(struct module *m, uint32_t detail)
     return could;
 }
 
-#define FOR_ALL(way, name) \
-    {12, "access, " name, change_guard, OF_KIND(way, ANY_ACCESS), 0}, {13, "JR, " name, change_guard, OF_KIND(way, JR), 0}, \
-    {13, "JALR, " name, change_guard, OF_KIND(way, JALR), 0}
+/* A load into 26 or 27, whose guard has wrong words or wrong numbers. */
+static int load_into_base(struct module *m, uint32_t detail)
+{
+    uint32_t at = fresh_bundles(m, 1);
+    if (at == NOWHERE)
+        return 0;
+    at += below(2);
+    put_access(m, at, LW);
+    struct nearly n = {&m->words[at], 4, m->data_size, other_register(&m->words[at])};
+    if (detail < MASK_NO_MULTIPLE)
+        change_registers(&n, detail);
+    else
+        change_some_numbers(&n);
+    n.w[2] = with_field(n.w[2], RT, DATA_REGISTER + below(2));
+    choose_targets(m, word_count(m));
+    return 1;
+}
 
-const struct way guard_ways[] = {
-    FOR_ALL(NO_GUARD, "no guard at all"),
-    FOR_ALL(EARLIER_BUNDLE, "guard begins in the bundle before"),
-    FOR_ALL(BETWEEN, "a word between the guard and it"),
-    FOR_ALL(OTHER_ORDER, "OR before ANDI"),
-    FOR_ALL(NO_ANDI, "no ANDI"),
-    FOR_ALL(NO_OR, "no OR"),
-    FOR_ALL(ZERO, "R is 0"),
-    FOR_ALL(BASE_IS_26, "base is 26"),
-    FOR_ALL(BASE_IS_27, "base is 27"),
-    FOR_ALL(OTHER_BASE, "base is another register"),
-    FOR_ALL(OTHER_ANDI, "ANDI of another register"),
-    FOR_ALL(OTHER_SOURCE, "OR reads another register"),
-    FOR_ALL(OTHER_RESULT, "OR writes another register"),
-    FOR_ALL(OTHER_AREA, "OR with another area's base"),
-    FOR_ALL(SWAPPED, "operands of OR swapped"),
-    FOR_ALL(MASK_NO_MULTIPLE, "mask no multiple"),
-    FOR_ALL(MASK_TOO_LARGE, "mask too large by one"),
-    {12, "access, offset no multiple", change_guard, OF_KIND(OFFSET_NO_MULTIPLE, ANY_ACCESS), 0},
-    {12, "access, offset negative", change_guard, OF_KIND(OFFSET_NEGATIVE, ANY_ACCESS), 0},
-    {12, "access, offset too large by one", change_guard, OF_KIND(OFFSET_TOO_LARGE, ANY_ACCESS), 0},
+#define FOR_WORDS(of) \
+    of(NO_GUARD, "no guard at all"), of(EARLIER_BUNDLE, "guard begins in the bundle before"), of(BETWEEN, "a word between the guard and it"), \
+    of(OTHER_ORDER, "OR before ANDI"), of(NO_ANDI, "no ANDI"), of(NO_OR, "no OR"), of(ZERO, "R is 0"), of(BASE_IS_26, "base is 26"), \
+    of(BASE_IS_27, "base is 27"), of(OTHER_BASE, "base is another register"), of(OTHER_ANDI, "ANDI of another register"), \
+    of(OTHER_SOURCE, "OR reads another register"), of(OTHER_RESULT, "OR writes another register"), \
+    of(OTHER_AREA, "OR with another area's base"), of(SWAPPED, "operands of OR swapped")
+#define ACCESS(way, name) \
+    {12, "access, " name, change_guard, OF_KIND(way, ANY_ACCESS), 0}, \
+    {12, "access, numbers wrong too, " name, change_guard, OF_KIND(way, ANY_ACCESS) | WRONG_NUMBERS, 0}
+#define MASKS(way, name) \
+    {13, "JR, " name, change_guard, OF_KIND(way, JR), 0}, {13, "JALR, " name, change_guard, OF_KIND(way, JALR), 0}
+#define JUMPS(way, name) \
+    MASKS(way, name), {13, "JR, mask wrong too, " name, change_guard, OF_KIND(way, JR) | WRONG_NUMBERS, 0}
+#define NUMBERS(way, kind, name) {22, name, change_guard, OF_KIND(way, kind), 0}
+#define MULTIPLES(way, name) \
+    NUMBERS(way, ANY_ACCESS, "access, " name), NUMBERS(way, SH, "SH, " name), NUMBERS(way, LW, "LW, " name)
+#define WIDTHS(way, name) MULTIPLES(way, name), NUMBERS(way, LB, "LB, " name)
+
+const struct way access_ways[] = {
+    FOR_WORDS(ACCESS),
+    MULTIPLES(MASK_NO_MULTIPLE, "mask no multiple"),
+    MULTIPLES(OFFSET_NO_MULTIPLE, "offset no multiple"),
+    WIDTHS(OFFSET_NEGATIVE, "offset negative, and a multiple"),
+    MULTIPLES(OFFSET_ODD_NEGATIVE, "offset negative, and no multiple"),
+    WIDTHS(MASK_TOO_LARGE, "mask too large by a width"),
+    WIDTHS(OFFSET_TOO_LARGE, "offset too large by a width"),
+    WIDTHS(SUM_PAST_16_BITS, "sum of 65,536 and a width"),
+    WIDTHS(ALL_NUMBERS, "mask too large, offset negative, and neither a multiple"),
     {0, NULL, NULL, 0, 0},
+};
+
+const struct way jump_ways[] = {
+    FOR_WORDS(JUMPS),
+    MASKS(MASK_NO_MULTIPLE, "mask no multiple"),
+    MASKS(MASK_TOO_LARGE, "mask too large by one"),
+    {0, NULL, NULL, 0, 0},
+};
+
+const struct combined access_combined[] = {
+    {{10, "load into 26 or 27 with another ANDI", load_into_base, OTHER_ANDI, 0}, RULE(12)},
+    {{10, "load into 26 or 27 with wrong numbers", load_into_base, ALL_NUMBERS, 0}, RULE(22)},
+    {{0, NULL, NULL, 0, 0}, 0},
 };

@@ -106,8 +106,6 @@ const struct way straight_ways[] = {
     {0, NULL, NULL, 0, 0},
 };
 
-#define RULE(n) (1u << (n))
-
 const struct combined straight_combined[] = {
     {{15, "to the last word", aim, LAST_WORD, 0}, RULE(20)},
     {{15, "below the code", aim, BELOW, 0}, RULE(20)},
