@@ -127,6 +127,7 @@ void test_pages(void);
 void test_cases(void);
 void test_check(void);
 void test_words(void);
+void test_guards(void);
 void test_straight(void);
 void test_finish(void);
 void test_margin(void);

@@ -88,6 +88,7 @@ int main(int count, char **arguments)
     test_cases();
     test_check();
     test_words();
+    test_guards();
     test_straight();
     test_finish();
     test_margin();

@@ -1,4 +1,4 @@
-/* The checker's rules for words, 8 to 16, at their limits. */
+/* The checker's rules for words, 8 to 16 and 22, at their limits. */
 #include <inttypes.h>
 
 #include "test.h"
@@ -86,7 +86,7 @@ static void expect_access(struct layout l, uint32_t kind, uint32_t mask, uint32_
 {
     for (uint32_t first = 0; first < 2; first++) {
         put_access(l, first, kind, mask, offset);
-        expect_verdict(&m, fits ? CC100_DONE : CC100_REFUSED_ACCESS, fits ? CC100_NO_PLACE : first + 2);
+        expect_verdict(&m, fits ? CC100_DONE : CC100_REFUSED_MASK, fits ? CC100_NO_PLACE : first);
     }
 }
 
