@@ -93,7 +93,7 @@ struct refusal {
 struct exit_name {
     const char *name, *when;
 };
-#define LAST_REFUSAL 21u
+#define LAST_REFUSAL 22u
 #define FIRST_EXIT CC100_EXIT_INTEGER_OVERFLOW
 #define LAST_EXIT CC100_EXIT_STOP_CORES
 const struct refusal *refusal_of(uint32_t number); /* NULL where there is none */
@@ -108,6 +108,7 @@ struct text {
 };
 struct text text_of(uint32_t word, uint32_t address);
 const char *mnemonic_of(uint32_t kind); /* NULL for no instruction, 0 */
+uint32_t width_of(uint32_t kind);       /* of an access, in bytes; else 0 */
 
 /* What an instruction writes, to be shown beside what a step changed. */
 #define WRITES_HI 32u
@@ -125,6 +126,10 @@ struct excerpt {
 void print_lines(const struct excerpt *e, uint32_t from, uint32_t to);
 /* Where a branch or jump of the module leads: a word's index, or CC100_NO_PLACE. */
 uint32_t target_index(const struct excerpt *e, uint32_t index);
+
+/* guards.c: what is wrong with the access and its guard that a verdict refuses by 12 or 22, and what to mend. Gives whether there is a text. */
+#define MOST_FINDING 1024
+bool describe_guard(const struct excerpt *e, cc100_verdict v, char *text, size_t size);
 
 /* rows.c: what a run hands to a module. The first two give the number of rows or figures, or -1, which is said. */
 int read_rows(const char *path, uint8_t *data, uint32_t data_size);

@@ -29,6 +29,16 @@ static void print_sentences(const struct refusal *r)
     print_wrapped("What to do:", r->change);
 }
 
+/* What is wrong with these words, where that can be said. */
+static void print_finding(const struct excerpt *e, cc100_verdict v)
+{
+    char text[MOST_FINDING];
+    if (!describe_guard(e, v, text, sizeof text))
+        return;
+    printf("\n");
+    print_wrapped("What is wrong here:", text);
+}
+
 static void print_layout(const struct excerpt *e)
 {
     const struct layout *l = &e->layout;
@@ -88,6 +98,7 @@ static void explain_refused(const struct excerpt *e, cc100_verdict v)
     printf("\n\n");
     print_wrapped("", r->meaning);
     print_words(e, v.number);
+    print_finding(e, v);
     print_sentences(r);
     print_layout(e);
 }
@@ -124,6 +135,13 @@ static void print_sentences_object(const struct refusal *r)
     print_named("change", r->change);
 }
 
+static void print_finding_member(const struct excerpt *e, cc100_verdict v)
+{
+    char text[MOST_FINDING];
+    if (describe_guard(e, v, text, sizeof text))
+        print_named("finding", text);
+}
+
 /* One word of the excerpt, for a script. */
 static void print_word_object(const struct excerpt *e, uint32_t index)
 {
@@ -157,6 +175,7 @@ static void print_object(const struct excerpt *e, cc100_verdict v, bool straight
         print_sentences_object(refusal_of(v.number));
     else if (straight)
         printf(",\"most_steps\":%" PRIu32, last_bundle(l));
+    print_finding_member(e, v);
     if (s.to != 0)
         print_around(e, s);
     printf(",\"memory_length\":%" PRIu64 ",\"code_base\":%" PRIu32 ",\"code_size\":%" PRIu32, l->memory_length, l->code_base, l->code_size);
@@ -230,7 +249,8 @@ static enum status explain(const struct options *o) { return o->number_given ? e
 const struct subcommand explain_command = {
     EXPLAIN, "explain", "FILE | --number N", "says why a module is refused, and what to do about it",
     "Says whether a module is accepted. Where it is refused: the number, what it means,\n"
-    "the words around the place with an arrow, whom to ask and what to do.\n"
+    "the words around the place with an arrow, of a guard which word is wrong and what\n"
+    "it must be, whom to ask and what to do.\n"
     "'cc100 explain --number N' says what a number means, without a module.\n",
     1, 1, explain,
 };

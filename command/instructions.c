@@ -75,6 +75,18 @@ static void write_operand(char *to, size_t size, const cc100_instruction *i, cha
 
 const char *mnemonic_of(uint32_t kind) { return kind ? rows[kind - 1].name : NULL; }
 
+/* Accesses alone have an offset and a base. Their names tell the width: b and h, and a word for w, ll and sc. */
+uint32_t width_of(uint32_t kind)
+{
+    if (kind == 0 || strcmp(rows[kind - 1].operands, "t,o") != 0)
+        return 0;
+    switch (rows[kind - 1].name[1]) {
+    case 'b': return 1;
+    case 'h': return 2;
+    default: return 4;
+    }
+}
+
 struct text text_of(uint32_t word, uint32_t address)
 {
     cc100_instruction i = cc100_read(word);

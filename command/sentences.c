@@ -27,10 +27,10 @@ static const struct refusal refusals[LAST_REFUSAL] = {
      "Compiler: leave it out; BREAK takes any other code.", COMPILER},
     {"Register 26 or 27 is written. They hold the bases of data and code.", "0x3C1A0000", "Compiler: keep both out of use.", COMPILER},
     {"JALR with rd = rs, or BLTZAL or BGEZAL with rs = 31.", "0x07F10000", "Compiler: take another register.", COMPILER},
-    {"An access without a fitting guard: it could reach outside the data.", "0xAD090000 at word 0",
-     "See that the data size is the one that the compiler was told. Compiler: just before the access, in the same bundle, put ANDI R,S,m and "
-     "OR R,R,26, where R is its base and not 0, 26 or 27; m and the offset are multiples of the width, the offset is not negative, and m + "
-     "offset + width is at most the data size.", COMPILER},
+    {"An access without its two guard words: they are missing, others, or of another register than its base. The word is the access.",
+     "0xAD090000 at word 0",
+     "Compiler: just before the access, in the same bundle, put ANDI R,S,m and OR R,R,26, where R is its base and not 0, 26 or 27. Another mask or "
+     "offset does not help.", COMPILER},
     {"JR or JALR without a fitting guard: it could lead outside the code.", "0x03E00008 at word 0",
      "Compiler: just before it, in the same bundle, put ANDI R,S,m and OR R,R,27, where R is the register that it jumps by and not 0, 26 or "
      "27, and m is a multiple of 16 and at most the code size - 16.", COMPILER},
@@ -56,6 +56,10 @@ static const struct refusal refusals[LAST_REFUSAL] = {
      "zero word.", "0x0000004C at word 4",
      "Compiler: end the module with that bundle, and fill it up before it. Without such an end it may still be accepted where a "
      "straight-through module is not asked for.", COMPILER},
+    {"An access with its two guard words, whose mask or offset is wrong: it could reach outside the data. The word is the guard's ANDI, two before "
+     "the access.", "module M with 0x31080040 at word 0",
+     "See that the data size is the one that the compiler was told. Compiler: the guard words are right; make the mask m and the access's offset "
+     "multiples of its width, the offset not negative, and m + offset + width at most the data size.", COMPILER},
 };
 
 static const struct exit_name exits[LAST_EXIT - FIRST_EXIT + 1] = {
