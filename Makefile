@@ -14,7 +14,7 @@
 # make bench: speed beside plain C and, where it is installed, Unicorn. make bench BEFORE=FILE: beside another archive too, whose calls have the
 # same arguments and answers.
 SHELL = /bin/bash
-VERSION = 1.5
+VERSION = 1.6
 PREFIX = /usr/local
 CC = cc
 CFLAGS = -O2 -Wall -Wextra -Werror -Iinclude -Ibench
@@ -33,7 +33,7 @@ UNICORN = $(shell pkg-config --exists unicorn 2> /dev/null && echo -DUNICORN ben
 # Another archive's calls, by names of their own; before release 1.3 there was no check for straight-through modules.
 OTHER = $(if $(BEFORE),-DBEFORE $(if $(shell nm $(BEFORE) | grep -w cc100_check_straight),-DBEFORE_STRAIGHT) target/bench/before.a)
 # The samples that have a source.
-ASSEMBLED = m margin totals
+ASSEMBLED = m margin totals forgotten
 EMULATOR = $(wildcard tests/emulator/*.c)
 # The programs whose input and output are stored.
 STORED = vectors steps listing verdict

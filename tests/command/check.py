@@ -30,10 +30,14 @@ WORDS = [
     (14, 1, [0x08004000, 0x08004000]),
     (15, 0, [0x08004007]),
     (16, 6, [0] * 8),
-    # C10, C11 and C12
-    (12, 2, [0x3108003F] + M_WORDS[1:]),
-    (12, 2, [0x31080040] + M_WORDS[1:]),
+    # C10, C11 and C12; the first two as ticket 5 of document 02 has them
+    (22, 0, [0x3108003F] + M_WORDS[1:]),
+    (22, 0, [0x31080040] + M_WORDS[1:]),
     (15, 6, M_WORDS[:6] + [0x08004001, 0]),
+    # ticket 5 of document 02: an offset, right words in the second word of a bundle, and another register's guard with a wrong mask
+    (22, 0, M_WORDS[:2] + [0xAD09FFFC] + M_WORDS[3:]),
+    (22, 1, [0, 0x3108003F] + M_WORDS[1:3] + M_WORDS[4:]),
+    (12, 2, [0x3109003F] + M_WORDS[1:]),
 ]
 
 
@@ -85,18 +89,18 @@ def expect_verdicts(options, files, verdicts, data=None):
 
 def test_samples():
     """Document 01's C9, and what README says of the samples."""
-    verdicts = ["accept 8", "accept 64", "accept 8", "refuse 12 2"]
-    files = ["samples/%s.module" % name for name in ("m", "margin", "overflow", "refused")]
+    verdicts = ["accept 8", "accept 64", "accept 8", "refuse 22 0", "refuse 12 3"]
+    files = ["samples/%s.module" % name for name in ("m", "margin", "overflow", "refused", "forgotten")]
     for file, verdict in zip(files, verdicts):
         expect_verdicts([], [file], [verdict])
     expect_verdicts([], files, verdicts)
     expect_verdicts([], files[::-1], verdicts[::-1])
-    expect_verdicts(["--data-size", "128"], files, verdicts[:3] + ["accept 8"])
+    expect_verdicts(["--data-size", "128"], files, verdicts[:3] + ["accept 8", "refuse 12 3"])
     expect_verdicts([], [files[0]] * 3, ["accept 8"] * 3)
 
 
 def test_refusals():
-    """Every number that the checker gives, by document 01's own examples, and C10 to C12."""
+    """Every number that the checker gives, by document 01's own examples, C10 to C12, and guards."""
     name = module(M_WORDS, 32)
     for number, option in LAYOUTS:
         expect_verdicts(option.split(), [name], ["refuse %d -" % number])
@@ -149,9 +153,9 @@ def test_straight():
     expect_verdicts(["--straight"], together, [verdict for verdict, _ in STRAIGHT])
     for number, option in LAYOUTS:
         expect_verdicts(["--straight"] + option.split(), [write_words(STRAIGHT[0][1])], ["refuse %d -" % number])
-    files = ["samples/%s.module" % name for name in ("totals", "m", "margin", "overflow", "refused")]
-    expect_verdicts([], files, ["accept 128", "accept 8", "accept 64", "accept 8", "refuse 12 2"])
-    expect_verdicts(["--straight"], files, ["accept 128", "refuse 20 6", "refuse 20 30", "refuse 20 6", "refuse 12 2"])
+    files = ["samples/%s.module" % name for name in ("totals", "m", "margin", "overflow", "refused", "forgotten")]
+    expect_verdicts([], files, ["accept 128", "accept 8", "accept 64", "accept 8", "refuse 22 0", "refuse 12 3"])
+    expect_verdicts(["--straight"], files, ["accept 128", "refuse 20 6", "refuse 20 30", "refuse 20 6", "refuse 22 0", "refuse 12 3"])
     for length in (16, 32, 4096, 65536):
         expect_verdicts(["--straight"], [write_words(straight_words([], length))], ["accept %d" % (length // 4)])
 
@@ -201,7 +205,7 @@ def test_standard_input_twice():
 
 def test_mixtures():
     """The status is the worst of all, in every order. A file that cannot be read has its line on standard error alone."""
-    kinds = {"samples/m.module": ("accept 8", DONE), "samples/refused.module": ("refuse 12 2", REFUSED), "missing": (None, NOT_DONE)}
+    kinds = {"samples/m.module": ("accept 8", DONE), "samples/refused.module": ("refuse 22 0", REFUSED), "missing": (None, NOT_DONE)}
     files = list(kinds)
     for several in [[a, b] for a in files for b in files] + [[a, b, c] for a in files for b in files for c in files]:
         worst = max(kinds[name][1] for name in several)
@@ -316,10 +320,10 @@ def emulated_verdict(name, layout, length, checker="check"):
 
 
 def test_random_modules():
-    """The verdicts of the second emulator and, in the default layout, of the verdict program; all of document 01's are among them."""
+    """The verdicts of the second emulator and, in the default layout, of the verdict program; all of document 01's and 22 are among them."""
     r = random.Random(20261116)
     samples = []
-    for name in ("m", "margin", "overflow", "refused"):
+    for name in ("m", "margin", "overflow", "refused", "forgotten"):
         with open(path_of("samples/%s.module" % name), "rb") as file:
             content = file.read()
         samples.append(struct.unpack("<%dI" % (len(content) // 4), content))
@@ -334,11 +338,11 @@ def test_random_modules():
             came = [run([], content, program="verdict").out.decode().rstrip("\n") for content in contents]
             equal(["check"] + names, "the verdict program's lines", verdicts, came)
         met.update(verdict.split()[1] if verdict.startswith("refuse") else "accept" for verdict in verdicts)
-    equal(["check"], "verdicts that were met", {"accept"} | {"%d" % number for number in range(1, 17)}, met)
+    equal(["check"], "verdicts that were met", {"accept", "22"} | {"%d" % number for number in range(1, 17)}, met)
 
 
 def test_random_straight_modules():
-    """The same with --straight: all numbers of the checker are met, 20 and 21 among them."""
+    """The same with --straight: all numbers of the checker are met, 20 to 22 among them."""
     r, met = random.Random(20261117), set()
     for layout in [DEFAULT] * 12 + [random_layout(r) for _ in range(40)]:
         contents = [random_straight(r) for _ in range(30 if layout is DEFAULT else 6)]
@@ -347,4 +351,4 @@ def test_random_straight_modules():
         options = ["--%s=%d" % (name, number) for name, number in layout.items() if number is not None and layout is not DEFAULT]
         expect_verdicts(["--straight"] + options, names, verdicts)
         met.update(verdict.split()[1] if verdict.startswith("refuse") else "accept" for verdict in verdicts)
-    equal(["check", "--straight"], "verdicts that were met", {"accept", "20", "21"} | {"%d" % number for number in range(1, 17)}, met)
+    equal(["check", "--straight"], "verdicts that were met", {"accept", "20", "21", "22"} | {"%d" % number for number in range(1, 17)}, met)

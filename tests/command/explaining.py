@@ -5,6 +5,8 @@ given here.
 """
 import functools
 import json
+import random
+import re
 import struct
 import textwrap
 
@@ -35,17 +37,18 @@ def layout_text(memory_length=MEMORY_LENGTH, code_base="0x10000", code_size=16, 
         memory_length, code_size, code_base, data_size, data_base)
 
 
-def refused_text(name, number, place, words, layout):
-    """What explain prints; words are the lines between the meaning and whom to ask, with an empty one before them."""
+def refused_text(name, number, place, words, layout, finding=None):
+    """What explain prints; words are the lines between the meaning and what is wrong or whom to ask, with an empty one before them."""
     said = told(number)
     at = "" if place is None else " at word %d" % place
-    return ("%s is refused, number %d%s\n\n" % (name, number, at) + wrapped(said["meaning"]) + words + "\n"
+    found = "" if finding is None else "\n" + wrapped("What is wrong here: " + finding)
+    return ("%s is refused, number %d%s\n\n" % (name, number, at) + wrapped(said["meaning"]) + words + found + "\n"
             + wrapped("Whom to ask: " + said["ask"]) + "\n" + wrapped("What to do: " + said["change"]) + layout)
 
 
-def expect_refused(arguments, name, number, place, words, layout, data=None):
+def expect_refused(arguments, name, number, place, words, layout, data=None, finding=None):
     expect(["explain"] + arguments + [name if name != "standard input" else "-"], REFUSED,
-           refused_text(name, number, place, words, layout), data=data)
+           refused_text(name, number, place, words, layout, finding), data=data)
 
 
 # The layout of each, and what of it is printed: document 01's examples, and the limits beside them.
@@ -175,24 +178,6 @@ PLACES = [
        2  0x00010008  08004000    j       0x10000  (word 0)
        3  0x0001000c  00000000    nop
 """),
-    (12, 0, [0xAD090000], 16, """
--->    0  0x00010000  ad090000    sw      $9,0($8)
-       1  0x00010004  00000000    nop
-       2  0x00010008  08004000    j       0x10000  (word 0)
-       3  0x0001000c  00000000    nop
-"""),
-    # the guard stands in the bundle before
-    (12, 4, [0, 0, 0x3108003C, 0x011A4025, 0xAD090000], 32, """
-       0  0x00010000  00000000    nop
-       1  0x00010004  00000000    nop
-       2  0x00010008  3108003c    andi    $8,$8,0x3c
-       3  0x0001000c  011a4025    or      $8,$8,$26
-
--->    4  0x00010010  ad090000    sw      $9,0($8)
-       5  0x00010014  00000000    nop
-       6  0x00010018  08004000    j       0x10000  (word 0)
-       7  0x0001001c  00000000    nop
-"""),
     (13, 0, [0x03E00008], 16, """
 -->    0  0x00010000  03e00008    jr      $31
        1  0x00010004  00000000    nop
@@ -261,6 +246,137 @@ PLACES = [
 def test_places():
     for number, place, words, length, lines in PLACES:
         expect_refused([], module(words, length), number, place, lines, layout_text(code_size=length))
+
+
+# Refusals 12 and 22: the place, the four words of a bundle, what is wrong with them, and the words that take their place where it is mended as
+# the text says, None where that is another bundle.
+ANDI, OR, SW = 0x31080000, 0x011A4025, 0xAD090000  # ANDI 8,8,0; OR 8,8,26; SW 9,0(8); with a mask and an offset put in
+FIRST, SECOND = "The %s at word %d is the first word of its bundle", "The %s at word %d is the second word of its bundle"
+NO_ROOM = ", and two words of a guard have no room before it there. To mend: put andi $8,S,m and or $8,$8,$26 and the %s into one bundle."
+BASE_8 = "The base of the sw at word 2 is register 8. "
+BOTH = " To mend: put the two words before it, in the same bundle."
+ONE = " To mend: change that word."
+NO_GUARD = "The base of the %s at word 2 is register %d, which no guard can be of. To mend: take another register R as the base, with andi " \
+    "R,S,m and or R,R,$26 before it."
+GUARDS = [
+    (12, 0, [SW], FIRST % ("sw", 0) + NO_ROOM % "sw", None),
+    (12, 1, [0, 0xC1090000], SECOND % ("ll", 1) + NO_ROOM % "ll", None),
+    (12, 2, [0, 0, SW], BASE_8 + "Word 0 is nop and must be andi $8,S,m. Word 1 is nop and must be or $8,$8,$26." + BOTH, [ANDI, OR, SW]),
+    (12, 3, [ANDI | 0x3C, OR, 0, SW], "The base of the sw at word 3 is register 8. Word 1 is or $8,$8,$26 and must be andi $8,S,m. Word 2 is nop "
+     "and must be or $8,$8,$26." + BOTH, [0, ANDI | 0x3C, OR, SW]),
+    (12, 2, [0x3508003C, OR, SW], BASE_8 + "Word 0 is ori $8,$8,0x3c and must be andi $8,S,m." + ONE, [ANDI | 0x3C, OR, SW]),
+    (12, 2, [0x3109003F, OR, SW | 2], BASE_8 + "Word 0 is andi $9,$8,0x3f and must be andi $8,S,m." + ONE, [ANDI | 0x38, OR, SW | 4]),
+    (12, 2, [ANDI | 0x3C, 0x011A4021, SW], BASE_8 + "Word 1 is addu $8,$8,$26 and must be or $8,$8,$26." + ONE, [ANDI | 0x3C, OR, SW]),
+    (12, 2, [ANDI | 0x3C, 0x03484025, SW], BASE_8 + "Word 1 is or $8,$26,$8 and must be or $8,$8,$26." + ONE, [ANDI | 0x3C, OR, SW]),
+    (12, 2, [ANDI | 0x3F, 0x011B4025, SW], BASE_8 + "Word 1 is or $8,$8,$27 and must be or $8,$8,$26." + ONE, [ANDI | 0x3C, OR, SW]),
+    (12, 2, [ANDI | 0x3C, 0x011A4825, SW], BASE_8 + "Word 1 is or $9,$8,$26 and must be or $8,$8,$26." + ONE, [ANDI | 0x3C, OR, SW]),
+    (12, 2, [0x3109003C, 0x013A4825, SW], "Words 0 and 1 are a guard of register 9, and the base of the sw at word 2 is register 8. To mend: make "
+     "them andi $8,S,m and or $8,$8,$26, or make $9 the base.", [0x3109003C, 0x013A4825, 0xAD290000]),
+    (12, 2, [ANDI | 0x3C, OR, 0xAD290000], "Words 0 and 1 are a guard of register 8, and the base of the sw at word 2 is register 9. To mend: make "
+     "them andi $9,S,m and or $9,$9,$26, or make $8 the base.", [0x3109003C, 0x013A4825, 0xAD290000]),
+    (12, 2, [ANDI | 0x3C, OR, 0xAF490000], NO_GUARD % ("sw", 26), None),
+    (12, 2, [ANDI | 0x3C, OR, 0x8F690000], NO_GUARD % ("lw", 27), None),
+    (12, 2, [0x3100003C, 0x001A0025, 0x80090000], NO_GUARD % ("lb", 0), None),
+    (22, 0, [ANDI | 0x3F, OR, SW], "Word 0, with the mask 0x3f, guards the sw at word 2, with the offset 0 and a width of 4. The mask is no multiple "
+     "of 4. Mask, offset and width are 63 + 0 + 4 = 67, and the data has 64 bytes. To mend: make the mask of word 0 a multiple of 4, at most "
+     "0x3c.", [ANDI | 0x3C, OR, SW]),
+    (22, 0, [ANDI | 0x2A, OR, SW | 8], "Word 0, with the mask 0x2a, guards the sw at word 2, with the offset 8 and a width of 4. The mask is no "
+     "multiple of 4. To mend: make the mask of word 0 a multiple of 4, at most 0x34.", [ANDI | 0x34, OR, SW | 8]),
+    (22, 1, [0, ANDI | 0x30, OR, 0xA5090003], "Word 1, with the mask 0x30, guards the sh at word 3, with the offset 3 and a width of 2. The offset "
+     "is no multiple of 2. To mend: make the offset of word 3 a multiple of 2, at most 0xe and not negative.",
+     [0, ANDI | 0x30, OR, 0xA509000E]),
+    (22, 0, [ANDI | 0x3C, OR, SW | 0xFFFC], "Word 0, with the mask 0x3c, guards the sw at word 2, with the offset -4 and a width of 4. The offset is "
+     "negative. To mend: make the offset of word 2 a multiple of 4, at most 0x0 and not negative.", [ANDI | 0x3C, OR, SW]),
+    (22, 0, [ANDI | 0x3E, OR, 0x8109FFFF], "Word 0, with the mask 0x3e, guards the lb at word 2, with the offset -1 and a width of 1. The offset is "
+     "negative. To mend: make the offset of word 2 at most 0x1 and not negative.", [ANDI | 0x3E, OR, 0x81090001]),
+    (22, 0, [ANDI | 0x3F, OR, 0x91090001], "Word 0, with the mask 0x3f, guards the lbu at word 2, with the offset 1 and a width of 1. Mask, offset "
+     "and width are 63 + 1 + 1 = 65, and the data has 64 bytes. To mend: make the mask of word 0 at most 0x3e. With a data size of 128 it would "
+     "fit as it is.", [ANDI | 0x3E, OR, 0x91090001]),
+    (22, 0, [ANDI | 0x3F, OR, 0xE109FFFE], "Word 0, with the mask 0x3f, guards the sc at word 2, with the offset -2 and a width of 4. The mask is no "
+     "multiple of 4. The offset is no multiple of 4. The offset is negative. Mask, offset and width are 63 - 2 + 4 = 65, and the data has 64 "
+     "bytes. To mend: change both, so that the offset is not negative and the three are at most 64, mask and offset multiples of 4.",
+     [ANDI | 0x20, OR, 0xE109001C]),
+    (22, 0, [ANDI | 0xFFFF, OR, 0x81097FFF], "Word 0, with the mask 0xffff, guards the lb at word 2, with the offset 32767 and a width of 1. Mask, "
+     "offset and width are 65535 + 32767 + 1 = 98303, and the data has 64 bytes. To mend: change both, so that the offset is not negative and "
+     "the three are at most 64.", [ANDI | 0x20, OR, 0x8109001F]),
+]
+
+
+def text_of(word):
+    """The text of a word that explain shows, by the listing of a module of it; addresses are those of a first word."""
+    line = run(["list", module([word], 16, "listed.module")]).out.decode().split("\n")[0]
+    return line[31:]
+
+
+def lines_of(words, place):
+    """The lines of a first bundle, with an arrow, as a listing has each word by itself."""
+    return "\n" + "".join("%s%5d  0x%08x  %08x    %s\n" % ("-->" if i == place else "   ", i, 0x10000 + 4 * i, word, text_of(word))
+                          for i, word in enumerate(words))
+
+
+def test_guards():
+    """12 and 22 with what is wrong and what to mend, as text and as an object; and mended so the module is accepted."""
+    for number, place, words, finding, mended in GUARDS:
+        whole = list(struct.unpack("<8I", image(words, 32)))
+        lines, name = lines_of(whole[:4], place), module(words, 32)
+        expect_refused([], name, number, place, lines, layout_text(code_size=32), finding=finding)
+        said = told(number)
+        expect_object(["explain", "--json", name], REFUSED, {
+            "file": name, "verdict": "refuse", "number": number, "place": place, "meaning": said["meaning"], "ask": said["ask"],
+            "change": said["change"], "finding": finding, "around": around_of(lines, whole), **layout_object(code_size=32)})
+        if mended:
+            expect(["check", module(mended, 32)], DONE, "accept 8\n")
+    # the guard begins in the bundle before
+    for moved, which in ((2, FIRST), (3, SECOND)):
+        words = [0] * moved + [ANDI | 0x3C, OR, SW]
+        came = json.loads(run(["explain", "--json", module(words, 32)]).out)
+        equal(["explain", "--json"], "a guard that is split", which % ("sw", moved + 2) + ", and two words of a guard have no room before it there. "
+              "Its guard, words %d and %d, begins in the bundle before. To mend: put andi $8,S,m and or $8,$8,$26 and the sw into one bundle."
+              % (moved, moved + 1), came["finding"])
+
+
+def as_told(words, finding):
+    """Mends the three words as the text says: each number as large as it may be."""
+    words, width = list(words), int(re.search(r"width of (\d)", finding).group(1))
+    mask = re.search(r"make the mask of word 0 (?:a multiple of \d, )?at most 0x([0-9a-f]+)", finding)
+    offset = re.search(r"make the offset of word 2 (?:a multiple of \d, )?at most 0x([0-9a-f]+) and not negative", finding)
+    if mask:
+        words[0] = words[0] & 0xFFFF0000 | int(mask.group(1), 16)
+    elif offset:
+        words[2] = words[2] & 0xFFFF0000 | int(offset.group(1), 16)
+    else:
+        words[0], words[2] = words[0] & 0xFFFF0000, words[2] & 0xFFFF0000
+    return words, (0, width) if mask else (2, width) if offset else None
+
+
+def random_numbers(r):
+    """A guard and its access, often with a mask or an offset that is wrong, and the width."""
+    width, opcode = r.choice([(1, 0x24), (2, 0x29), (4, 0x23), (4, 0x38)])
+    mask = r.choice([r.randrange(0x50), r.randrange(0x10) * width, 64 - width, 64, r.getrandbits(16)])
+    offset = r.choice([0, 0, width * r.randrange(16), r.randrange(16), -width * r.randrange(1, 4) & 0xFFFF, r.getrandbits(16)])
+    return [ANDI | mask, OR, opcode << 26 | 0x01090000 | offset]
+
+
+def test_advice():
+    """Random guards with wrong numbers: mended as told they are accepted, and with a width more they are not; and so with the data size."""
+    r, met = random.Random(20261127), set()
+    for _ in range(120):
+        words = random_numbers(r)
+        came = json.loads(run(["explain", "--json", module(words, 32)]).out)
+        if came["verdict"] == "accept":
+            continue
+        mended, more = as_told(words, came["finding"])
+        met.add("both" if more is None else "mask" if more[0] == 0 else "offset")
+        expect(["check", module(mended, 32)], DONE, "accept 8\n")
+        if more:
+            mended[more[0]] += more[1]
+            expect(["check", module(mended, 32)], REFUSED, "refuse 22 0\n")
+        size = re.search(r"With a data size of (\d+) it would fit", came["finding"])
+        if size:
+            met.add("size")
+            expect(["check", "--data-size", size.group(1), module(words, 32)], DONE, "accept 8\n")
+            expect(["check", "--data-size", "%d" % (int(size.group(1)) // 2), module(words, 32)], REFUSED, "refuse 22 0\n")
+    equal(["explain", "--json"], "what was to be mended", {"mask", "offset", "both", "size"}, met)
 
 
 # Refusal 15. Where the branch leads is shown with the word after it, unless both are among the lines already.
@@ -520,24 +636,55 @@ def test_other_layout():
 def test_whole_texts():
     """Nothing in these is taken from the program: they are README's text, and the same for an accepted module."""
     expect("explain samples/refused.module", REFUSED, """\
-samples/refused.module is refused, number 12 at word 2
+samples/refused.module is refused, number 22 at word 0
 
-An access without a fitting guard: it could reach outside the data.
+An access with its two guard words, whose mask or offset is wrong: it could
+reach outside the data. The word is the guard's ANDI, two before the access.
 
-       0  0x00010000  31080040    andi    $8,$8,0x40
+-->    0  0x00010000  31080040    andi    $8,$8,0x40
        1  0x00010004  011a4025    or      $8,$8,$26
--->    2  0x00010008  ad090000    sw      $9,0($8)
+       2  0x00010008  ad090000    sw      $9,0($8)
        3  0x0001000c  0000000c    syscall
+
+What is wrong here: Word 0, with the mask 0x40, guards the sw at word 2, with
+the offset 0 and a width of 4. Mask, offset and width are 64 + 0 + 4 = 68, and
+the data has 64 bytes. To mend: make the mask of word 0 a multiple of 4, at most
+0x3c. With a data size of 128 it would fit as it is.
 
 Whom to ask: Whoever writes the compiler. First compare the file with the one
 that the compiler wrote, by length and checksum: where they differ, fetch it
 again. The author of the report cannot mend it.
 
 What to do: See that the data size is the one that the compiler was told.
-Compiler: just before the access, in the same bundle, put ANDI R,S,m and OR
-R,R,26, where R is its base and not 0, 26 or 27; m and the offset are multiples
-of the width, the offset is not negative, and m + offset + width is at most the
-data size.
+Compiler: the guard words are right; make the mask m and the access's offset
+multiples of its width, the offset not negative, and m + offset + width at most
+the data size.
+
+Checked for memory of 196608 bytes, 32 bytes of code at 0x10000,
+64 bytes of data at 0x20000.
+""")
+    expect("explain samples/forgotten.module", REFUSED, """\
+samples/forgotten.module is refused, number 12 at word 3
+
+An access without its two guard words: they are missing, others, or of another
+register than its base. The word is the access.
+
+       0  0x00010000  24080010    addiu   $8,$0,16
+       1  0x00010004  240904e2    addiu   $9,$0,1250
+       2  0x00010008  01294821    addu    $9,$9,$9
+-->    3  0x0001000c  ad090000    sw      $9,0($8)
+
+What is wrong here: The base of the sw at word 3 is register 8. Word 1 is addiu
+$9,$0,1250 and must be andi $8,S,m. Word 2 is addu $9,$9,$9 and must be or
+$8,$8,$26. To mend: put the two words before it, in the same bundle.
+
+Whom to ask: Whoever writes the compiler. First compare the file with the one
+that the compiler wrote, by length and checksum: where they differ, fetch it
+again. The author of the report cannot mend it.
+
+What to do: Compiler: just before the access, in the same bundle, put ANDI R,S,m
+and OR R,R,26, where R is its base and not 0, 26 or 27. Another mask or offset
+does not help.
 
 Checked for memory of 196608 bytes, 32 bytes of code at 0x10000,
 64 bytes of data at 0x20000.
@@ -637,7 +784,7 @@ def test_object_bytes():
 
 def test_numbers():
     """The text of every number has the sentences of its object, in lines of at most 80 columns."""
-    for number in range(1, 22):
+    for number in range(1, 23):
         said = told(number)
         expect("explain --number %d" % number, DONE, "%d is a refusal\n\n" % number + wrapped(said["meaning"])
                + "\nFor example: %s\n\n" % said["example"] + wrapped("Whom to ask: " + said["ask"]) + "\n"
@@ -667,7 +814,7 @@ size, before its last jump.
 Not all of the four bytes from PC on are inside memory; they do not wrap, so PC
 0xFFFFFFFC gives 50.
 """)
-    for number in (0, 22, 39, 53, 2 ** 32 - 1):
+    for number in (0, 23, 39, 53, 2 ** 32 - 1):
         expect(["explain", "--number", str(number)], 2, "",
-               "cc100 explain: %d is no number of a refusal, 1 to 21, or of an exit, 40 to 52\n"
+               "cc100 explain: %d is no number of a refusal, 1 to 22, or of an exit, 40 to 52\n"
                "usage: cc100 explain [OPTION]... FILE | --number N\n'cc100 explain --help' says more\n" % number)

@@ -198,7 +198,7 @@ def closes(*numbers):
 def test_closed_input():
     """A file can be read all the same."""
     expect_unread("-", "cannot read standard input: Bad file descriptor", preexec_fn=closes(0))
-    expect("check samples/m.module samples/refused.module", REFUSED, "samples/m.module: accept 8\nsamples/refused.module: refuse 12 2\n",
+    expect("check samples/m.module samples/refused.module", REFUSED, "samples/m.module: accept 8\nsamples/refused.module: refuse 22 0\n",
            preexec_fn=closes(0))
     expect("check samples/m.module -", NOT_DONE, "samples/m.module: accept 8\n",
            "cc100: cannot read standard input: Bad file descriptor\n", preexec_fn=closes(0))
@@ -235,6 +235,7 @@ def test_no_room():
 WRITERS = [
     "check samples/m.module", "check samples/refused.module", "check --json samples/m.module samples/refused.module",
     "explain samples/m.module", "explain samples/refused.module", "explain --json samples/refused.module", "explain --number 12",
+    "explain samples/forgotten.module",
     "explain --json --number 40", "list samples/m.module", "list samples/margin.module", "run samples/m.module",
     "run samples/m.module --figures samples/m.figures", "run samples/margin.module",
     "run --json samples/margin.module --rows samples/margin.rows", "check --straight samples/m.module",
@@ -253,8 +254,9 @@ def test_full():
     if not os.path.exists("/dev/full"):
         skip("output to a full disk: there is no /dev/full")
         return
-    refused_said = "cc100: samples/refused.module is refused, number 12 at word 2: " \
-        "An access without a fitting guard: it could reach outside the data.\n"
+    refused_said = "cc100: samples/refused.module is refused, number 22 at word 0: " \
+        "An access with its two guard words, whose mask or offset is wrong: it could reach outside the data. The word is the guard's ANDI, " \
+        "two before the access.\n"
     with open("/dev/full", "wb") as full:
         for arguments in WRITERS:
             expect_unwritten(arguments, "No space left on device", stdout=full)
@@ -319,9 +321,9 @@ def test_closed_errors():
     """What cannot be said is still in the exit status, and nothing of it is on standard output."""
     closed = {"stderr": subprocess.DEVNULL, "preexec_fn": closes(2)}
     for arguments in [filled(reader, name) for reader in READERS for name in ("missing", "samples")] + [
-            [], ["nothing"], ["check"], ["list", "--data-size", "x", "FILE"], ["explain", "--number", "22"]]:
+            [], ["nothing"], ["check"], ["list", "--data-size", "x", "FILE"], ["explain", "--number", "23"]]:
         compare(arguments, Came(NOT_DONE, b"", None), run(arguments, **closed))
-    compare("check", Came(REFUSED, b"samples/m.module: accept 8\nsamples/refused.module: refuse 12 2\n", None),
+    compare("check", Came(REFUSED, b"samples/m.module: accept 8\nsamples/refused.module: refuse 22 0\n", None),
             run("check samples/m.module samples/refused.module", **closed))
     compare("run", Came(REFUSED, b"", None), run("run samples/refused.module", **closed))
     all_closed = {"stdout": subprocess.DEVNULL, "stderr": subprocess.DEVNULL, "preexec_fn": closes(0, 1, 2)}

@@ -71,7 +71,8 @@ def test_samples():
     one in its slot."""
     expect("run samples/m.module --figures samples/m.figures", DONE, stored("m.expected"))
     expect("run samples/overflow.module --figures samples/m.figures", REFUSED, stored("overflow.expected"))
-    expect("run samples/refused.module", REFUSED, "", refused("samples/refused.module", 12, 2))
+    expect("run samples/refused.module", REFUSED, "", refused("samples/refused.module", 22, 0))
+    expect("run samples/forgotten.module", REFUSED, "", refused("samples/forgotten.module", 12, 3))
     # with 128 bytes of data its mask of 0x40 fits, and register 8 and all data are 0
     expect("run samples/refused.module --data-size 128", DONE, placed(8, data_size=128) + after(3, 0x1000C) + NONE_LEFT + data_text([], 32))
 

@@ -43,7 +43,8 @@ files, each line begins with the file's name. 'cc100 explain' says why.
 """,
     "explain": """\
 Says whether a module is accepted. Where it is refused: the number, what it means,
-the words around the place with an arrow, whom to ask and what to do.
+the words around the place with an arrow, of a guard which word is wrong and what
+it must be, whom to ask and what to do.
 'cc100 explain --number N' says what a number means, without a module.
 """,
     "list": """\
@@ -196,7 +197,7 @@ def test_abbreviated_options():
     expect(["check", "--data-s", "3", M], REFUSED, "refuse 3 -\n")
     expect(["check", "--s", M], REFUSED, "refuse 20 6\n")  # M jumps back to its first word
     expect(["run", "--st", "--stra", M], NOT_DONE, "", wrong("run", "there is no option '--st'"))  # or --steps
-    expect_wrong(["explain", "--n", "22"], "22 is no number of a refusal, 1 to 21, or of an exit, 40 to 52")
+    expect_wrong(["explain", "--n", "23"], "23 is no number of a refusal, 1 to 22, or of an exit, 40 to 52")
     expect_wrong(["run", "--b", "x", M], not_a_number("budget", "x"))
 
 
@@ -267,7 +268,7 @@ TAKEN = [
     ("data-base", 65536, "refuse 6 -"),
     ("data-size", 2**32 - 1, "refuse 3 -"),
     ("data-size", 128, "accept 8"),
-    ("data-size", 32, "refuse 12 2"),
+    ("data-size", 32, "refuse 22 0"),
 ]
 
 
@@ -284,7 +285,7 @@ def test_largest_numbers():
     expect(["run", "--budget", "3", M], REFUSED, started + "still running, and its budget is spent; the report is not complete\n"
            "last access: store of 4 bytes at 0x20000, place 0 of the data area\n")
     for number in (2**32 - 1, 2**32 - 12):
-        expect_wrong(["explain", "--number", "%#x" % number], "%d is no number of a refusal, 1 to 21, or of an exit, 40 to 52" % number)
+        expect_wrong(["explain", "--number", "%#x" % number], "%d is no number of a refusal, 1 to 22, or of an exit, 40 to 52" % number)
 
 
 def test_last_of_an_option():
@@ -323,12 +324,12 @@ def test_number_with_a_file():
         expect_wrong(["explain"] + arguments, "'%s' is one file too many" % M)
     expect_wrong(["explain", "--number", "12", "-"], "'-' is one file too many")
     # The count of files comes before the number itself.
-    expect_wrong(["explain", "--number", "22", M], "'%s' is one file too many" % M)
+    expect_wrong(["explain", "--number", "23", M], "'%s' is one file too many" % M)
 
 
 def test_places_of_options():
     """Options may stand before and after files, and after -- there are only files."""
-    both = "samples/m.module: refuse 12 2\nsamples/refused.module: refuse 12 2\n"
+    both = "samples/m.module: refuse 22 0\nsamples/refused.module: refuse 22 0\n"
     refused = "samples/refused.module"
     for arguments in (["--data-size", "32", M, refused], [M, "--data-size", "32", refused], [M, refused, "--data-size=32"],
                       ["--data-size", "32", "--", M, refused], [M, "--data-size=32", "--", refused]):
