@@ -1,4 +1,5 @@
-/* The checker's calls: document 01's refusal table and marked cases, of which ticket 5 of document 02 amends C10 and C11, the layout at its limits, and the order of the rules. */
+/* The checker's calls: document 01's refusal table and marked cases, C10 and C11 as ticket 5 of document 02 has them, the layout at its limits, and
+   the order of the rules. */
 #include <inttypes.h>
 #include <string.h>
 
