@@ -63,7 +63,7 @@ static void look_at_place(const struct module *m, uint32_t number, uint32_t plac
         same_number("an access is at the place", 1, (uint64_t)(place < word_count(m) && access_width(kind_at(m, place))));
     if (number == CC100_REFUSED_MASK)
         same_number("an ANDI is at the place, and an access two words on", 1,
-                    (uint64_t)(place + 2 < word_count(m) && kind_at(m, place) == ANDI && access_width(kind_at(m, place + 2))));
+                    (uint64_t)(place < word_count(m) - 2 && kind_at(m, place) == ANDI && access_width(kind_at(m, place + 2))));
 }
 
 /* Gives the emulator's number and place. */
