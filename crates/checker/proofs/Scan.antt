@@ -21,8 +21,8 @@ use Rattle.refusal.specs.Refusal.{number_of, refused_number, refused_when}
 use Rattle.refusal.proofs.Numbers.{number_some}
 use Rattle.word.proofs.Choice.{both, by_test, by_zero}
 use Rattle.checker.specs.declared.verdict.Verdict.{Verdict}
-use Rattle.rules.specs.Rules.{Sized, word_at, view_at, view_before, broken10, broken11, broken12, broken22, broken13, broken14, broken15}
-use Rattle.checker.specs.Scan.{file_refusal, word_refusal, number_of_branch, number_of_word, SaysBranch, number_at, first_word, end_verdict, words_verdict, image_verdict, words_by}
+use Rattle.rules.specs.Rules.{Sized, word_at, view_at, view_before, broken10, broken11, broken12, broken22, data_refusal, broken13, broken14, broken15}
+use Rattle.checker.specs.Scan.{or_number, file_refusal, word_refusal, number_of_branch, number_of_word, SaysBranch, number_at, first_word, end_verdict, words_verdict, image_verdict, words_by}
 use Rattle.checker.specs.Check.{Trial, trial, verdict, said, no_place, trials_at, trials_after, in_turn, trials_by, is_word_broken, is_file_broken, broken_by, first_of, check_of, code_of, placed_of}
 use Rattle.checker.specs.Refusal.{All}
 use Rattle.rules.specs.Not.{Not}
@@ -51,7 +51,7 @@ given t x k = cond (eqb k 0) x (t k)
 
 pub ladder : (t : ℕ → Verdict) (x : Verdict) (a b c d e f g h i : Bool)
     → cond a (t 8) (cond b (t 9) (cond c (t 10) (cond d (t 11) (cond e (t 12) (cond f (t 22) (cond g (t 13) (cond h (t 14) (cond i (t 15) x))))))))
-    ≡ given t x (cond a 8 (cond b 9 (cond c 10 (cond d 11 (cond e 12 (cond f 22 (cond g 13 (cond h 14 (cond i 15 0)))))))))
+    ≡ given t x (cond a 8 (cond b 9 (cond c 10 (cond d 11 (or_number (cond e 12 (cond f 22 0)) (cond g 13 (cond h 14 (cond i 15 0))))))))
 ladder t x true b c d e f g h i = refl
 ladder t x false true c d e f g h i = refl
 ladder t x false false true d e f g h i = refl
@@ -157,7 +157,7 @@ pub seen_ladder : (t : ℕ → Verdict) (x : Verdict) (l : Layout) (img : List �
     (cond (passes (broken14 after) o) (t 14)
     (cond (passes (broken15 l img i) o) (t 15) x))))))))
     ≡ given t x (word_refusal l img i after o)
-unfolding word_refusal
+unfolding data_refusal word_refusal
 seen_ladder t x l img i after None = refl
 seen_ladder t x l img i after (Some v) =
     ladder t x false v.barred (broken10 v) (broken11 v) (broken12 img i v) (broken22 l.data_size img i v) (broken13 l.code_size img i v) (broken14 after v) (broken15 l img i v)
@@ -208,7 +208,7 @@ plain_none (Some v) h =
 
 module _ (of_branch : Layout → ℕ → View → ℕ) (l : Layout) (img : List ℕ) (i : ℕ) (after : Bool) where
   plain_zero : (o : Option View) → passes is_plain o ≡ true → 0 ≡ number_of_word of_branch l img i after o
-  unfolding number_of_word word_refusal broken10 broken11 broken12 broken22 broken13 broken14 broken15
+  unfolding number_of_word word_refusal broken10 broken11 broken12 broken22 data_refusal broken13 broken14 broken15
   plain_zero None h = absurd (false≢true h)
   plain_zero (Some v) h =
       let b = both (not v.barred) _ h in

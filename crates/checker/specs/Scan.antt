@@ -6,13 +6,16 @@ use Rattle.layout.specs.declared.Layout.{Layout}
 use Rattle.layout.specs.Layout.{layout_refusal}
 use Rattle.view.specs.declared.View.{View}
 use Rattle.view.specs.View.{passes, is_branch, is_jump}
-use Rattle.rules.specs.Rules.{view_at, view_before, broken10, broken11, broken12, broken22, broken13, broken14, broken15}
+use Rattle.rules.specs.Rules.{view_at, view_before, broken10, broken11, data_refusal, broken13, broken14, broken15}
 use Rattle.checker.specs.declared.verdict.Verdict.{Verdict}
 use Rattle.checker.specs.Check.{Trial, trial, verdict, said, no_place, accepted, in_turn, first_of}
 
+-- number k, or x where it is 0
+abbrev pub or_number : ℕ → ℕ → ℕ
+or_number k x = cond (eqb k 0) x k
+
 unfoldable pub file_refusal : Layout → ℕ → List ℕ → ℕ
-file_refusal l len img =
-    cond (eqb (layout_refusal l len) 0) (cond (eqb (length img) l.code_size) 0 7) (layout_refusal l len)
+file_refusal l len img = or_number (layout_refusal l len) (cond (eqb (length img) l.code_size) 0 7)
 
 -- of what word i is seen as
 unfoldable pub word_refusal : Layout → List ℕ → ℕ → Bool → Option View → ℕ
@@ -21,11 +24,10 @@ word_refusal l img i after (Some v) =
     cond v.barred 9
     (cond (broken10 v) 10
     (cond (broken11 v) 11
-    (cond (broken12 img i v) 12
-    (cond (broken22 l.data_size img i v) 22
+    (or_number (data_refusal l.data_size img i v)
     (cond (broken13 l.code_size img i v) 13
     (cond (broken14 after v) 14
-    (cond (broken15 l img i v) 15 0)))))))
+    (cond (broken15 l img i v) 15 0))))))
 
 -- ---- the same with the rules of a profile: of_branch is asked of branches and jumps after 15, of_whole after 16
 
@@ -34,8 +36,7 @@ number_of_branch of_branch l i None = 0
 number_of_branch of_branch l i (Some v) = cond (is_branch v) (of_branch l i v) 0
 
 unfoldable pub number_of_word : (Layout → ℕ → View → ℕ) → Layout → List ℕ → ℕ → Bool → Option View → ℕ
-number_of_word of_branch l img i after v =
-    cond (eqb (word_refusal l img i after v) 0) (number_of_branch of_branch l i v) (word_refusal l img i after v)
+number_of_word of_branch l img i after v = or_number (word_refusal l img i after v) (number_of_branch of_branch l i v)
 
 -- what is handed on of a word that breaks nothing
 abbrev pub SaysBranch : Result Bool Refusal → Option View → Type 0

@@ -58,8 +58,7 @@ pub fn check_word(site: Site, after: bool, v: View) -> Result<(), Refusal>
     Refusal::Barred.when(v.barred)?;
     Refusal::WritesBase.when(single::breaks10(v))?;
     Refusal::LinkOverBase.when(single::breaks11(v))?;
-    Refusal::DataGuard.when(guard::breaks12(word, v))?;
-    Refusal::DataMask.when(guard::breaks22(layout.data_size, word, v))?;
+    guard::check_data(layout.data_size, word, v)?;
     Refusal::CodeGuard.when(guard::breaks13(layout.code_size, word, v))?;
     Refusal::BranchAfterBranch.when(single::breaks14(after, v))?;
     Refusal::Target.when(landing::breaks15(site, v))

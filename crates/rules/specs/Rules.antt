@@ -82,6 +82,10 @@ unfoldable pub broken22 : ℕ → List ℕ → ℕ → View → Bool
 broken22 size img i v =
     is_some v.width && (has_guard img i 26 v.rs && not (fits_data size (mask_at img i) (offset_of v.value) (bytes_of v.width)))
 
+-- the number of the two that an access breaks, 0 where it breaks none
+unfoldable pub data_refusal : ℕ → List ℕ → ℕ → View → ℕ
+data_refusal size img i v = cond (broken12 img i v) 12 (cond (broken22 size img i v) 22 0)
+
 -- JR or JALR without fitting guard
 unfoldable pub broken13 : ℕ → List ℕ → ℕ → View → Bool
 broken13 size img i v = is_register v.flow && not (has_guard img i 27 v.rs && fits_code size (mask_at img i))

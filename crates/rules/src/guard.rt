@@ -1,6 +1,7 @@
 // Guards: the two words before an access, JR or JALR.
 ghost use Rattle.std.specs.Prelude.{◌≡◌};
 ghost use Rattle.isa.specs.Width.{bytes_in};
+ghost use Rattle.refusal.specs.Refusal.{refused_number};
 ghost use Rattle.rules.specs.Offset.{offset_of};
 ghost use Rattle.rules.specs.Rules as Spec;
 
@@ -8,6 +9,7 @@ use crate::image::Word;
 use class::Flow;
 use isa::register;
 use isa::width::Width;
+use refusal::{Ending, Refusal};
 use view::{View, is_base};
 
 // a and b are the two words before the one that needs a guard, r is its base.
@@ -51,22 +53,18 @@ fn fits_code(size: u32, mask: u32) -> bool
     mask % 16 == 0 && u64::from(mask) + 16 <= u64::from(size)
 }
 
-#[tactic(auto, unfolding(crate::specs::Rules::broken12, crate::specs::Rules::guard_mask))]
-pub fn breaks12(w: Word, v: View) -> bool
-    ensures { result ≡ Spec.broken12 w.entry.image.now w.entry.index v }
-{
-    v.width.is_some() && mask_before(w, register::DATA_BASE, v.rs).is_none()
-}
-
-#[tactic(auto, unfolding(crate::specs::Rules::broken22, crate::specs::Rules::guard_mask))]
-pub fn breaks22(data_size: u32, w: Word, v: View) -> bool
-    ensures { result ≡ Spec.broken22 data_size w.entry.image.now w.entry.index v }
+// 12 and 22 in one, since both look at the guard.
+#[tactic(auto, unfolding(crate::specs::Rules::data_refusal, crate::specs::Rules::broken12, crate::specs::Rules::broken22, crate::specs::Rules::guard_mask))]
+pub fn check_data(data_size: u32, w: Word, v: View) -> Result<(), Refusal>
+    ensures { refused_number result ≡ Spec.data_refusal data_size w.entry.image.now w.entry.index v }
 {
     let Some(width) = v.width else {
-        return false;
+        return Ok(());
     };
-    let guard = mask_before(w, register::DATA_BASE, v.rs);
-    guard.is_some_and(|mask| !fits_data(data_size, mask, v.value, width))
+    let Some(mask) = mask_before(w, register::DATA_BASE, v.rs) else {
+        return Err(Refusal::DataGuard);
+    };
+    Refusal::DataMask.when(!fits_data(data_size, mask, v.value, width))
 }
 
 #[tactic(auto, unfolding(crate::specs::Rules::broken13, crate::specs::Rules::guard_mask))]
