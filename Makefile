@@ -23,8 +23,9 @@ VERDICT = target/bin/verdict
 # The calls, behind cc100_.
 EXPORTED = check check_placed check_straight run step resume read write
 # The libraries for C that they are in. Each is compiled by itself, so that what two calls share is inlined into both, and begins a page, so that
-# its speed does not hang on where a host's linker puts it; cc100_run begins some bytes into its page (tools/begin.ld).
+# its speed does not hang on where a host's linker puts it; three begin some bytes into their page (tools/begin says how many).
 CALLS = cc100_instruction_c cc100_step_c cc100_run cc100_resume cc100_check cc100_check_placed cc100_check_straight
+BEGUN = cc100_run:28 cc100_check:8 cc100_check_straight:20
 PAGE = 4096
 PLAIN = bench/plain_read.c bench/plain_step.c bench/plain_check.c
 TIMED = bench/timing.c $(PLAIN)
@@ -66,11 +67,11 @@ test:
 archive:
 	@tools/build $(CALLS)
 	@rm -rf target/archive && mkdir -p target/archive
-	@cd target/archive && for c in $(CALLS); do \
-	    ar x ../lib/lib$$c.a || exit 1; \
-	    [ $$c != cc100_run ] || { ld -r -T ../../tools/begin.ld -o begun.o $$c.o && mv begun.o $$c.o; } || exit 1; \
-	    objcopy --set-section-alignment '.text.*=$(PAGE)' $$c.o || exit 1; \
+	@cd target/archive && for c in $(CALLS); do ar x ../lib/lib$$c.a || exit 1; done
+	@cd target/archive && for b in $(BEGUN); do \
+	    sed "s/BYTES;/$${b#*:};/" ../../tools/begin.ld > begun.ld && ld -r -T begun.ld -o begun.o $${b%:*}.o && mv begun.o $${b%:*}.o || exit 1; \
 	done
+	@cd target/archive && for c in $(CALLS); do objcopy --set-section-alignment '.text.*=$(PAGE)' $$c.o || exit 1; done
 	@rm -f target/libcc100.a && ar rcs target/libcc100.a $(patsubst %,target/archive/%.o,$(CALLS))
 
 # Made anew where anything that it is made from changed; another archive (ARCHIVE=FILE) is taken as it is.
