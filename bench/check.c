@@ -7,12 +7,10 @@
 #include "plain.h"
 #include "timing.h"
 
-#ifndef ROUNDS
-#define ROUNDS 41 /* tools/begin, which counts instructions, takes fewer, and less of each */
-#define WORK 8388608u /* bytes checked in a round */
-#endif
+#define ROUNDS 41
 #define LARGEST 65536u
 #define SMALLEST 16u
+#define WORK 8388608u /* bytes checked in a round */
 
 #define MEMORY_LENGTH 196608u
 #define CODE_BASE 0x10000u

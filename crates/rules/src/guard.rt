@@ -33,7 +33,9 @@ fn mask_before(w: Word, base: u32, r: u32) -> Option<u32>
     is_guarded(first, w.before(1), base, r).then_some(first % 65536)
 }
 
+// A call of its own: the loop of a check is faster without it inside.
 #[tactic(auto, using(crate::proofs::Guards::negative_offset, crate::proofs::Guards::offset_fits, crate::proofs::Guards::bytes_some))]
+#[inline(never)]
 fn fits_data(size: u32, mask: u32, offset: u32, width: Width) -> bool
     ensures { result ≡ Spec.fits_data size mask (offset_of offset) (bytes_in width) }
 {
