@@ -4,6 +4,7 @@ use mathlib.Core.Path.{◌≡◌, sym, subst, ap, ◌∙◌}
 use mathlib.Core.Bool.{not}
 use mathlib.Core.List.{List}
 use native.Mathlib.Omega.{arith}
+use Rattle.std.specs.Prelude.{Some}
 use Rattle.isa.specs.Width.{bytes_of}
 use Rattle.class.specs.Class.{width_accessed}
 use Rattle.layout.specs.declared.Layout.{Layout}
@@ -12,12 +13,13 @@ use Rattle.rules.specs.Not.{Not}
 use Rattle.rules.specs.Offset.{offset_of}
 use Rattle.rules.specs.Rules.{view_at, fits_data, broken12, broken22}
 use Rattle.checker.specs.declared.verdict.Verdict.{Verdict}
-use Rattle.checker.specs.Check.{Trial, trial, named, trials_of, check_of}
-use Rattle.checker.specs.Lawful.{FitsData, width_of, Rule12, Rule22, FittingGuard, words_in}
+use Rattle.checker.specs.Check.{Trial, trial, named, accepted, trials_of, check_of}
+use Rattle.checker.specs.Lawful.{FitsData, width_of, Rule12, Rule22, Lawful}
+use Rattle.checker.specs.Before.{FittingGuard, LawfulBefore}
 use Rattle.checker.specs.Refusal.{Unguarded, Misfit, Keeps}
 use Rattle.checker.proofs.Says.{Says, nots, ands, stops, held}
 use Rattle.checker.proofs.Reflection.{accesses, some_word, only_mask, guarded, guards, fits_data_law, rule12, rule22}
-use Rattle.checker.proofs.Whole.{Found, refused_first}
+use Rattle.checker.proofs.Whole.{Found, accepted_lawful, lawful_accepted, refused_first}
 
 -- ---- the two are one rule of document 01
 
@@ -33,17 +35,56 @@ module _ (l : Layout) (img : List ℕ) (i : ℕ) where
         subst (λ (k : ℕ). FitsData l.data_size k (offset_of x.value) (width_of x)) e h.1.1,
   )
 
--- so that no module is lawful that was not, and none is not that was: of `Lawful` r12 and r22 alone are other
-module _ (l : Layout) (img : List ℕ) where
-  abbrev pub EveryWord : (ℕ → Type 0) → Type 0
-  EveryWord P = (i : ℕ) → i < words_in l → P i
+-- so that the same modules are lawful, and accepted, as before
+module _ (l : Layout) (len : ℕ) (img : List ℕ) where
+  lawful_before : Lawful l len img → LawfulBefore l len img
+  lawful_before w =
+      record {
+        r1 = w.r1;
+        r2 = w.r2;
+        r3 = w.r3;
+        r4 = w.r4;
+        r5 = w.r5;
+        r6 = w.r6;
+        r7 = w.r7;
+        r8 = w.r8;
+        r9 = w.r9;
+        r10 = w.r10;
+        r11 = w.r11;
+        r12 = λ i h. together l img i (w.r12 i h) (w.r22 i h);
+        r13 = w.r13;
+        r14 = w.r14;
+        r15 = w.r15;
+        r16 = w.r16;
+      }
 
-  pub same_modules : (EveryWord (FittingGuard l img) → EveryWord (Rule12 img) × EveryWord (Rule22 l img))
-      × (EveryWord (Rule12 img) × EveryWord (Rule22 l img) → EveryWord (FittingGuard l img))
-  same_modules = (
-    λ f. (λ i h. (apart l img i (f i h)).0, λ i h. (apart l img i (f i h)).1),
-    λ f i h. together l img i (f.0 i h) (f.1 i h),
-  )
+  before_lawful : LawfulBefore l len img → Lawful l len img
+  before_lawful w =
+      record {
+        r1 = w.r1;
+        r2 = w.r2;
+        r3 = w.r3;
+        r4 = w.r4;
+        r5 = w.r5;
+        r6 = w.r6;
+        r7 = w.r7;
+        r8 = w.r8;
+        r9 = w.r9;
+        r10 = w.r10;
+        r11 = w.r11;
+        r12 = λ i h. (apart l img i (w.r12 i h)).0;
+        r22 = λ i h. (apart l img i (w.r12 i h)).1;
+        r13 = w.r13;
+        r14 = w.r14;
+        r15 = w.r15;
+        r16 = w.r16;
+      }
+
+  pub same_modules : (Lawful l len img → LawfulBefore l len img) × (LawfulBefore l len img → Lawful l len img)
+  same_modules = (lawful_before, before_lawful)
+
+  pub same_accepted : (check_of l len img ≡ accepted → LawfulBefore l len img) × (LawfulBefore l len img → check_of l len img ≡ accepted)
+  same_accepted = (λ e. lawful_before (accepted_lawful l len img e), λ w. lawful_accepted l len img (before_lawful w))
 
 -- ---- what breaks them
 
@@ -70,6 +111,13 @@ module _ (l : Layout) (img : List ℕ) (i : ℕ) where
       let m = held misfits (stops (rule22 l img i) n) in
       let e : i ≡ i - 2 + 2 = omega (arith, m.1.1.1.1.0.0) in
       subst (Misfit l img) e m
+
+  -- no word breaks both
+  pub never_both : Unguarded img i → Misfit l img i → ⊥
+  never_both (x, (s, (u, n))) (y, (t, (v, (m, (g, h))))) =
+      let e : Some x ≡ Some y = sym s ∙ t in
+      let r : x.rs ≡ y.rs = cc in
+      n (m, rw r g)
 
 -- ---- what is told of them: 12 at the access, 22 at the ANDI of its guard
 

@@ -1,4 +1,4 @@
--- The checker: every rule at every word, tried in document 01's order, until one is broken.
+-- The checker: rules tried in document 01's order, 22 of document 02 among them, until one is broken.
 use Rattle.std.specs.Prelude.{ℕ, zero, suc, ◌-◌, ◌/◌, Bool, true, false, cond, not, List, [], ◌∷◌, ◌++◌, eqb, leb, length, take, drop}
 use Rattle.view.specs.View.{passes, is_branch, is_jump}
 use Rattle.layout.specs.declared.Layout.{Layout}
@@ -8,7 +8,7 @@ use Rattle.rules.specs.Rules.{view_at, view_before, broken10, broken11, broken12
 
 -- ---- trials
 
--- a rule, and the word at which it is tried: no_word for those of layout and image
+-- a rule, and the word at which it is tried: no_place for those of layout and image
 pub record Trial : Type 0 where
   pub number : ℕ
   pub word : ℕ
@@ -16,11 +16,11 @@ pub record Trial : Type 0 where
 abbrev pub trial : ℕ → ℕ → Trial
 trial n i = record { number = n; word = i }
 
--- what a refusal hands back: the rule that is broken, and its place
+-- what is handed back: the rule that is broken, 0 where none is, and its place
 abbrev pub verdict : ℕ → ℕ → Verdict
 verdict n p = record { number = n; place = p }
 
--- stands for the word of what is tried at none, and for its place: 0xFFFFFFFF
+-- the word of what is tried at none, and its place: 0xFFFFFFFF
 abbrev pub no_place : ℕ
 no_place = 4294967295
 
@@ -51,7 +51,7 @@ trials_at i =
 abbrev pub trials_after : ℕ → List Trial
 trials_after n = trial 16 (n - 2) ∷ []
 
--- n words from word i on, each tried with its `at`; then `after`, of the number of words
+-- n words from word i on, each tried with its `at`; then `after`, of the index past them
 abbrev pub in_turn : (ℕ → List Trial) → (ℕ → List Trial) → ℕ → ℕ → List Trial
 in_turn at after zero i = after i
 in_turn at after (suc n) i = at i ++ in_turn at after n (suc i)

@@ -1,4 +1,4 @@
--- Document 01's worked cases of the checker: the examples of the Refusal table, 1 to 16, and C9 to C12.
+-- Document 01's worked cases of the checker, the examples of the Refusal table, 1 to 16, and C9 to C12; and cases of 12 and 22.
 use Rattle.std.specs.Prelude.{ℕ, ◌/◌, ◌%◌, List, [], ◌∷◌, ◌++◌}
 use Rattle.layout.specs.declared.Layout.{Layout}
 use Rattle.layout.specs.Layout.{layout_of}
@@ -75,48 +75,95 @@ cases =
 abbrev pub examples : List Example
 examples = refusals ++ cases
 
--- words a, b and c, one zero word, and zeros but for a jump to the first word
+-- words a, b and c, and zeros but for a jump to the first word
 abbrev pub three : ℕ → ℕ → ℕ → Verdict → Example
 three a b c v = holding (a ∷ b ∷ c ∷ 0 ∷ 0 ∷ 0 ∷ 0x08004000 ∷ 0 ∷ []) v
 
--- 12 and 22 told apart (document 02, Ticket 5): M's guard, ANDI 8,8,60 and OR 8,8,26, and its SW 9,0(8), each with something else in its place
-abbrev pub guards : List Example
-guards =
-    -- the ANDI forgotten, the OR forgotten; XOR for OR; 27 for 26
-    three 0 0x011A4025 0xAD090000 (verdict 12 2)
+-- M's OR 8,8,26 and its SW 9,0(8), after another ANDI; the ANDI 8,8,56 and the OR, before another access
+abbrev pub mask : ℕ → Verdict → Example
+mask a v = three a 0x011A4025 0xAD090000 v
+
+abbrev pub access : ℕ → Verdict → Example
+access c v = three 0x31080038 0x011A4025 c v
+
+-- the same with 65,536 bytes of data, and any ANDI and access
+abbrev pub widest : ℕ → ℕ → Verdict → Example
+widest a c v =
+    record {
+      memory = length_m;
+      layout = layout_of 0x10000 32 0x20000 65536;
+      words = a ∷ 0x011A4025 ∷ c ∷ 0 ∷ 0 ∷ 0 ∷ 0x08004000 ∷ 0 ∷ [];
+      says = v;
+    }
+
+-- 12, and what is beside it (document 02, Ticket 5)
+abbrev pub unguarded : List Example
+unguarded =
+    -- no ANDI; no OR; ORI 8,8,60; XOR 8,8,26; OR 8,8,27; OR 8,26,8
+    mask 0 (verdict 12 2)
     ∷ three 0x3108003C 0 0xAD090000 (verdict 12 2)
+    ∷ mask 0x3508003C (verdict 12 2)
     ∷ three 0x3108003C 0x011A4026 0xAD090000 (verdict 12 2)
     ∷ three 0x3108003C 0x011B4025 0xAD090000 (verdict 12 2)
-    -- R is 9 in the ANDI, in the OR, in the SW; R is 0 in all three; and 9 in the ANDI with a mask too large: a wrong R is counted first
-    ∷ three 0x3109003C 0x011A4025 0xAD090000 (verdict 12 2)
-    ∷ three 0x3108003C 0x013A4825 0xAD090000 (verdict 12 2)
-    ∷ three 0x3108003C 0x011A4025 0xAD290000 (verdict 12 2)
+    ∷ three 0x3108003C 0x03484025 0xAD090000 (verdict 12 2)
+    -- another R: ANDI 9,8,60; OR 9,8,26; OR 8,9,26; SW 9,0(9); and R is 0 in all three: ANDI 0,8,60, OR 0,0,26, SW 9,0(0)
+    ∷ mask 0x3109003C (verdict 12 2)
+    ∷ three 0x3108003C 0x011A4825 0xAD090000 (verdict 12 2)
+    ∷ three 0x3108003C 0x013A4025 0xAD090000 (verdict 12 2)
+    ∷ access 0xAD290000 (verdict 12 2)
     ∷ three 0x3100003C 0x001A0025 0xAC090000 (verdict 12 2)
-    ∷ three 0x31090040 0x011A4025 0xAD090000 (verdict 12 2)
-    -- the guard in the bundle before, with a mask too large
+    -- R is 26 in all three, ANDI 26,8,60, OR 26,26,26, SW 9,0(26): 10 refuses the ANDI before
+    ∷ three 0x311A003C 0x035AD025 0xAF490000 (verdict 10 0)
+    -- S is another register: ANDI 8,9,60
+    ∷ mask 0x3128003C accepted
+    -- a wrong R counts before a mask too large, ANDI 9,8,64, and before a negative offset, SW 9,-4(9)
+    ∷ mask 0x31090040 (verdict 12 2)
+    ∷ access 0xAD29FFFC (verdict 12 2)
+    -- the guard in the bundle before, with a mask too large, ANDI 8,8,64
     ∷ holding (0 ∷ 0 ∷ 0x31080040 ∷ 0x011A4025 ∷ 0xAD090000 ∷ 0 ∷ 0x08004000 ∷ 0 ∷ []) (verdict 12 4)
-    -- the last word that the area has, and the offset 4 past it; the same with a smaller mask
-    ∷ three 0x3108003C 0x011A4025 0xAD090004 (verdict 22 0)
-    ∷ three 0x31080038 0x011A4025 0xAD090004 accepted
-    -- SW 9,2(8), and SH in its place; SH 9,1(8), and SB in its place; a mask of 63 for SB
-    ∷ three 0x31080038 0x011A4025 0xAD090002 (verdict 22 0)
-    ∷ three 0x31080038 0x011A4025 0xA5090002 accepted
-    ∷ three 0x31080038 0x011A4025 0xA5090001 (verdict 22 0)
-    ∷ three 0x31080038 0x011A4025 0xA1090001 accepted
-    ∷ three 0x3108003F 0x011A4025 0xA1090000 accepted
-    -- SW 9,-4(8)
-    ∷ three 0x3108003C 0x011A4025 0xAD09FFFC (verdict 22 0)
-    -- the access in the bundle's last word
-    ∷ holding (0 ∷ 0x31080040 ∷ 0x011A4025 ∷ 0xAD090000 ∷ 0 ∷ 0 ∷ 0x08004000 ∷ 0 ∷ []) (verdict 22 1)
-    -- JR 8, whose mask is no multiple of 16, and is too large
+    -- LB 9,0(8), LHU 9,0(8), LL 9,0(8) and SC 9,0(8) with no guard
+    ∷ three 0 0 0x81090000 (verdict 12 2)
+    ∷ three 0 0 0x95090000 (verdict 12 2)
+    ∷ three 0 0 0xC1090000 (verdict 12 2)
+    ∷ three 0 0 0xE1090000 (verdict 12 2)
+    -- 13 is that of JR 8 and JALR 31,8, whatever is wrong: ANDI 8,8,8, no multiple of 16; ANDI 8,8,32, too large
     ∷ three 0x31080008 0x011B4025 0x01000008 (verdict 13 2)
     ∷ three 0x31080020 0x011B4025 0x01000008 (verdict 13 2)
-    -- two guards: the first that is broken in the order of the words that need them
+    ∷ three 0x31080008 0x011B4025 0x0100F809 (verdict 13 2)
+    ∷ []
+
+-- 22, and what is beside it
+abbrev pub misfits : List Example
+misfits =
+    -- the mask is no multiple of 4: ANDI 8,8,58; with SB 9,0(8) the mask 63 fits
+    mask 0x3108003A (verdict 22 0)
+    ∷ three 0x3108003F 0x011A4025 0xA1090000 accepted
+    -- the offset is no multiple: SW 9,2(8), and SH in its place; SH 9,1(8), and SB in its place
+    ∷ access 0xAD090002 (verdict 22 0)
+    ∷ access 0xA5090002 accepted
+    ∷ access 0xA5090001 (verdict 22 0)
+    ∷ access 0xA1090001 accepted
+    -- the offset is negative: SW 9,-4(8), with 64 bytes of data, and with 65,536 and ANDI 8,8,0, where 65,532 would fit
+    ∷ access 0xAD09FFFC (verdict 22 0)
+    ∷ widest 0x31080000 0xAD09FFFC (verdict 22 0)
+    -- the sum is one access too large: SW 9,4(8) with ANDI 8,8,60, and with 56; and past 16 bits, with ANDI 8,8,65532
+    ∷ three 0x3108003C 0x011A4025 0xAD090004 (verdict 22 0)
+    ∷ access 0xAD090004 accepted
+    ∷ widest 0x3108FFFC 0xAD090004 (verdict 22 0)
+    ∷ widest 0x3108FFFC 0xAD090000 accepted
+    -- ANDI 8,8,64 with LL 9,0(8), and with LW 26,0(8), which breaks 10 too
+    ∷ three 0x31080040 0x011A4025 0xC1090000 (verdict 22 0)
+    ∷ three 0x31080040 0x011A4025 0x8D1A0000 (verdict 10 2)
+    -- the access in the bundle's last word, and the guard in the second bundle
+    ∷ holding (0 ∷ 0x31080040 ∷ 0x011A4025 ∷ 0xAD090000 ∷ 0 ∷ 0 ∷ 0x08004000 ∷ 0 ∷ []) (verdict 22 1)
+    ∷ holding (0 ∷ 0 ∷ 0 ∷ 0 ∷ 0x31080040 ∷ 0x011A4025 ∷ 0xAD090000 ∷ 0 ∷ []) (verdict 22 4)
+    -- words are tried in their order: 22 of word 2 before 12 of word 3, and 12 of word 3 before 22 of word 6
     ∷ holding (0x31080040 ∷ 0x011A4025 ∷ 0xAD090000 ∷ 0xAD090000 ∷ 0 ∷ 0 ∷ 0x08004000 ∷ 0 ∷ []) (verdict 22 0)
     ∷ holding (0 ∷ 0 ∷ 0 ∷ 0xAD090000 ∷ 0x31080040 ∷ 0x011A4025 ∷ 0xAD090000 ∷ 0 ∷ []) (verdict 12 3)
-    -- R is 26 in all three: 10 refuses the ANDI before
-    ∷ three 0x311A003C 0x035AD025 0xAF490000 (verdict 10 0)
     ∷ []
+
+abbrev pub guards : List Example
+guards = unguarded ++ misfits
 
 -- what the checker says of an example
 abbrev pub said_of : Example → Verdict

@@ -1,4 +1,4 @@
--- The rules as a reader of document 01 states them: propositions about the instructions of an image, with no order and no checker.
+-- The rules as a reader of document 01, with Ticket 5 of document 02, states them: propositions about the instructions of an image, with no order and no checker.
 use Rattle.std.specs.Prelude.{ℕ, ◌+◌, ◌-◌, ◌*◌, ◌/◌, ◌%◌, ◌^◌, ◌≤◌, ◌<◌, ◌≡◌, true, ◌⊎◌, List, ℤ, pos, length, Some}
 use Rattle.word.specs.Bytes.{load_of, longest}
 use Rattle.isa.specs.declared.kind.Alu.TheVariants.{Or}
@@ -136,12 +136,6 @@ abbrev pub Rule22 : Layout → List ℕ → ℕ → Type 0
 Rule22 l img i =
     (x : Instruction) → Stands img i x → Accesses x
     → (m : ℕ) → Guarded img i x.rs 26 m → FitsData l.data_size m (offset_of x.value) (width_of x)
-
--- the two together, which document 01 has as one rule: an access has a fitting guard
-abbrev pub FittingGuard : Layout → List ℕ → ℕ → Type 0
-FittingGuard l img i =
-    (x : Instruction) → Stands img i x → Accesses x
-    → (m : ℕ) × (Guarded img i x.rs 26 m × FitsData l.data_size m (offset_of x.value) (width_of x))
 
 abbrev pub Rule13 : Layout → List ℕ → ℕ → Type 0
 Rule13 l img i =

@@ -2,5 +2,6 @@ pub mod Check
 pub mod Said
 pub mod Scan
 pub mod Lawful
+pub mod Before
 pub mod Refusal
 pub mod Examples

@@ -1,4 +1,4 @@
--- What a refusal says: a rule that is broken at a word, and none before it in document 01's order.
+-- What a refusal says: a rule that is broken where it is tried, and none before it in the order of `trials_of`.
 use Rattle.std.specs.Prelude.{ℕ, ◌+◌, ◌≤◌, ◌<◌, ◌≡◌, ◌⊎◌, Bool, true, false, List, [], ◌∷◌, ◌++◌, eqb, leb, length}
 use Rattle.word.specs.Bytes.{longest}
 use Rattle.layout.specs.declared.Layout.{Layout}
@@ -62,11 +62,11 @@ pub record FirstBroken (P : Trial → Type 0) (ts : List Trial) (t : Trial) : Ty
 abbrev pub Refusal : Layout → ℕ → List ℕ → Trial → Type 0
 Refusal l len img t = FirstBroken (Keeps l len img) (trials_of l) t
 
--- an access at word i whose guard words are missing or different, which is refused by 12
+-- what a refusal by 12 tells of word i: an access whose guard words are missing or different
 abbrev pub Unguarded : List ℕ → ℕ → Type 0
 Unguarded img i = (x : Instruction) × (Stands img i x × (Accesses x × Not ((m : ℕ) × Guarded img i x.rs 26 m)))
 
--- one whose guard words are right, but their mask or its offset isn't, which is refused by 22
+-- and one by 22: an access whose guard words are right, but their mask and its offset don't fit
 abbrev pub Misfit : Layout → List ℕ → ℕ → Type 0
 Misfit l img i =
     (x : Instruction)
@@ -78,5 +78,5 @@ pub record Told (l : Layout) (v : Verdict) : Type 0 where
   pub number_is : (v.number ≤ 16) ⊎ (v.number ≡ 22)
   pub no_word : v.number < 8 → v.place ≡ no_place
   pub a_word : 8 ≤ v.number → v.place < words_in l
-  -- an ANDI, before the OR and the access
+  -- 22 names a word that two more follow, since an OR and an access stand there (`mask_told`)
   pub a_mask : v.number ≡ 22 → v.place + 2 < words_in l

@@ -16,7 +16,7 @@ use rules::site::{Module, Site};
 use rules::{guard, landing, single};
 use view::View;
 
-// The rules that a profile has beside document 01's: of each branch or jump, after 15, and of the whole, after 16.
+// The rules that a profile has beside the checker's: of each branch or jump, after 15, and of the whole, after 16.
 pub trait Profile {
     // each a refusal's number, 0 where none is broken: document 01's table and the definitions of the verdict name the rules by number
     ghost of_branch: { Layout → ℕ → View → ℕ };
@@ -31,7 +31,7 @@ pub trait Profile {
         ensures { refused_number result ≡ of_whole whole.entry.layout whole.entry.image.now };
 }
 
-// Document 01's rules alone.
+// The checker's rules alone.
 pub struct Basic;
 
 impl Profile for Basic {
@@ -125,7 +125,7 @@ fn check_end<P: Profile>(whole: Module) -> Result<(), Refused>
     Ok(P::check_whole(whole)?)
 }
 
-// The words from index 0, each with 8 to 15; then 16. By index, since the guard of a word is in the two before it.
+// The words from index 0, each with its rules; then those of the whole. By index, since the guard of a word is in the two before it.
 pub fn check_words<P: Profile>(whole: Module) -> Result<(), Refused>
     ensures { verdict_of result ≡ Spec.words_verdict P.of_branch P.of_whole whole.entry.layout whole.entry.image.now }
 {

@@ -56,7 +56,7 @@ mask_at img i = mask_in (word_at img (i - 2))
 abbrev pub in_bundle : ℕ → Bool
 in_bundle i = leb 2 (i % 4)
 
--- so that there is a guard before word i
+-- a guard stands before word i: a is word i - 2 and b word i - 1, in its bundle
 abbrev pub has_guard : List ℕ → ℕ → ℕ → ℕ → Bool
 has_guard img i base r = in_bundle i && is_guarded_at img i base r
 
@@ -77,7 +77,7 @@ fits_code size m = eqb (m % 16) 0 && leb (m + 16) size
 unfoldable pub broken12 : List ℕ → ℕ → View → Bool
 broken12 img i v = is_some v.width && not (has_guard img i 26 v.rs)
 
--- access whose guard words are right, but the mask or the offset isn't
+-- access whose guard words are right, but the mask and the offset don't fit
 unfoldable pub broken22 : ℕ → List ℕ → ℕ → View → Bool
 broken22 size img i v =
     is_some v.width && (has_guard img i 26 v.rs && not (fits_data size (mask_at img i) (offset_of v.value) (bytes_of v.width)))

@@ -1,4 +1,4 @@
--- The profile's verdict: document 01's rules in their order, 20 after 15 at each word, and 21 after 16 (document 02, Ticket 2).
+-- The profile's verdict: the checker's rules in their order, 20 after 15 at each word, and 21 after 16 (document 02, Ticket 2).
 use Rattle.std.specs.Prelude.{ℕ, Bool, cond, List, [], ◌∷◌, ◌++◌, eqb}
 use Rattle.layout.specs.declared.Layout.{Layout}
 use Rattle.checker.specs.declared.verdict.Verdict.{Verdict}

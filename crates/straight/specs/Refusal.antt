@@ -1,4 +1,4 @@
--- What a refusal by the profile says: a rule that is broken at a word, and none before it in the profile's order.
+-- What a refusal by the profile says: a rule that is broken where it is tried, and none before it in the profile's order.
 use Rattle.std.specs.Prelude.{ℕ, ◌+◌, ◌≤◌, ◌<◌, ◌≡◌, ◌⊎◌, List, eqb}
 use Rattle.layout.specs.declared.Layout.{Layout}
 use Rattle.checker.specs.declared.verdict.Verdict.{Verdict}
@@ -26,5 +26,5 @@ pub record StraightTold (l : Layout) (v : Verdict) : Type 0 where
   pub number_is : (v.number ≤ 16) ⊎ ((v.number ≡ 20) ⊎ ((v.number ≡ 21) ⊎ (v.number ≡ 22)))
   pub no_word : (v.number < 8) ⊎ (v.number ≡ 21) → v.place ≡ no_place
   pub a_word : 8 ≤ v.number → Not (v.number ≡ 21) → v.place < words_in l
-  -- an ANDI, before the OR and the access
+  -- 22 names a word that two more follow, since an OR and an access stand there (`straight_mask_told`)
   pub a_mask : v.number ≡ 22 → v.place + 2 < words_in l
