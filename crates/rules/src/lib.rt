@@ -1,4 +1,4 @@
-// The rules of words, 10 to 15 and 22, each by itself: does one word of an image break it?
+// The rules of words, 10 to 15 and 22: does one word of an image break them?
 #![tactic(auto)]
 
 pub mod guard;
