@@ -45,8 +45,8 @@ module _ (l : Layout) where
   file_told k h = record { number_is = inl (omega arith); no_word = λ _. refl; a_word = λ p. absurd (omega (arith, h, p)); a_mask = λ e. absurd (omega (arith, h, e)) }
 
   -- 22 names the ANDI
-  mask_told : (i : ℕ) → 16 ≤ l.code_size → i < words_in l → Told l (said (trial 22 i))
-  mask_told i h p =
+  andi_told : (i : ℕ) → 16 ≤ l.code_size → i < words_in l → Told l (said (trial 22 i))
+  andi_told i h p =
       record { number_is = inr refl; no_word = λ r. absurd (omega (arith, r)); a_word = λ _. omega (arith, p); a_mask = λ _. omega (arith, h, p) }
 
   -- all others name the word itself
@@ -62,7 +62,7 @@ module _ (l : Layout) where
   at_told i h p =
       implied (λ t. (8 ≤ t.number) × ((16 < t.number → t.number ≡ 22) × (t.word ≡ i))) ToldBy
       (λ t f. elim (dec_lt 16 t.number) [
-        | yes g ↦ (let e = f.1.0 g in rw e (mask_told t.word h (omega (arith, p, f.1.1))))
+        | yes g ↦ (let e = f.1.0 g in rw e (andi_told t.word h (omega (arith, p, f.1.1))))
         | no g ↦ word_told t.number t.word f.0 (omega (arith, g)) (omega (arith, p, f.1.1))
       ])
       (trials_at i) (omega arith)

@@ -1,4 +1,4 @@
-// Plain words: instructions that break none of 8 to 15, wherever they stand. Most words of a module are plain.
+// Plain words: instructions that break none of 8 to 15 and 22, wherever they stand. Most words of a module are plain.
 ghost use Rattle.std.specs.Prelude.{◌≡◌, true};
 ghost use Rattle.word.specs.Field.{Fit};
 ghost use Rattle.quick.specs.Plain.{Plain, PlainWord};

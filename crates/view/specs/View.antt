@@ -108,6 +108,6 @@ needs_guard v = is_some v.width || is_register v.flow
 abbrev pub is_base : ℕ → Bool
 is_base r = eqb r 26 || eqb r 27
 
--- plain, a name of ours: an instruction that breaks none of 8 to 15, wherever it stands
+-- plain, a name of ours: an instruction that breaks none of 8 to 15 and 22, wherever it stands
 abbrev pub is_plain : View → Bool
 is_plain v = not v.barred && (not (is_base v.written) && (not v.link && (not (is_some v.width) && not (is_branch v))))
