@@ -60,7 +60,7 @@ halved (suc d) n h e =
           (suc r.0, (let t : n ≡ n / 2 * 2 = omega arith in simp unary_clauses (t ∙ ap (λ (k : ℕ). k * 2) r.1))))
     ]
 
-ones_power : (e : ℕ) → count_ones (2 ^ e) ≡ 1
+pub ones_power : (e : ℕ) → count_ones (2 ^ e) ≡ 1
 unfolding ones
 ones_power zero = refl
 ones_power (suc e) =

@@ -22,7 +22,7 @@ pub struct Layout {
 }
 
 // A power of two, from `least` on.
-fn is_size(n: u32, least: u32) -> bool
+pub fn is_size(n: u32, least: u32) -> bool
     ensures { result ≡ is_power_of_two n && (leb least n && leb n 65536) }
 {
     n.is_power_of_two() && least <= n && n <= LARGEST

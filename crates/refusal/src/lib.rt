@@ -25,6 +25,8 @@ pub enum Refusal {
     NotForward = 20,
     LastBundle = 21,
     DataMask = 22,
+    NoSpace = 23,
+    AreasOut = 24,
 }
 
 // What a rule that is broken, or a test that holds, ends in: a refusal, or an exit of the machine.

@@ -1,0 +1,6 @@
+pub mod Multiples
+pub mod Seen
+pub mod Sizes
+pub mod Calls
+pub mod Kept
+pub mod Lists

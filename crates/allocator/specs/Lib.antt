@@ -1,0 +1,5 @@
+pub mod Not
+pub mod Record
+pub mod Calls
+pub mod Pass
+pub mod Lists

@@ -1,0 +1,96 @@
+// One pass over a record: whether it is sound, and the lowest base that is free.
+ghost use Rattle.std.specs.Prelude.{◌≡◌, ◌+◌, ◌*◌, ◌^◌, ◌≤◌, ◌<◌, true, ℕ};
+ghost use Rattle.std.specs.Int.{is_power_of_two};
+ghost use Rattle.std.specs.Option.{ForSome};
+ghost use Rattle.allocator.specs.Pass as Spec;
+ghost use Rattle.allocator.specs.Record.{IsSize, Size, kept};
+
+// Of the areas out that begin before some place: where the last one ends, and the lowest base at which an area of the size that is wanted overlaps
+// none of them.
+#[derive(Clone, Copy)]
+pub struct Pass {
+    pub end: u32,
+    pub base: u32,
+}
+
+// The least multiple of size from n on. A mask gives the remainder.
+#[tactic(auto, using(layout::proofs::Sizes::power_positive, crate::proofs::Multiples::cut))]
+fn round_up(n: u32, size: u32) -> u32
+    requires power { is_power_of_two size ≡ true }
+    requires room { n + size ≤ 2 ^ 31 }
+    ensures { result ≡ Spec.rounded size n }
+{
+    let last = n + (size - 1);
+    last - (last & (size - 1))
+}
+
+// The size of an area with this k.
+#[tactic(auto, using(crate::proofs::Multiples::power_most, crate::proofs::Multiples::shifted_tested))]
+fn size_of(k: u8) -> u32
+    requires { k ≤ 16 }
+    ensures value { result ≡ 2 ^ k }
+    ensures power { is_power_of_two result ≡ true }
+    ensures most { result ≤ 65536 }
+{
+    1u32 << k
+}
+
+impl Pass {
+    // An area is seen next: it begins at address `at`, and its byte is k, which is not 0. None where the record is not sound.
+    #[tactic(auto, using(layout::proofs::Sizes::remainder, layout::proofs::Sizes::power_positive), unfolding(crate::specs::Pass::taken))]
+    fn take(self, at: u32, k: u8, size: u32) -> Option<Pass>
+        requires power { is_power_of_two size ≡ true }
+        requires most { size ≤ 65536 }
+        requires place { at < kept }
+        requires base { self.base ≤ kept }
+        ensures { result ≡ Spec.taken size self at k }
+    {
+        if k < 4 || 16 < k {
+            return None;
+        }
+        let length = size_of(k);
+        if at & (length - 1) != 0 || at < self.end {
+            return None;
+        }
+        let end = at + length;
+        let base = if at < self.base + size {
+            round_up(end, size)
+        } else {
+            self.base
+        };
+        Some(Pass { end, base })
+    }
+
+    // The byte for the 16 bytes at address `at` is seen next.
+    #[tactic(auto, unfolding(crate::specs::Pass::looked))]
+    fn next(self, at: u32, byte: u8, size: u32) -> Option<Pass>
+        requires power { is_power_of_two size ≡ true }
+        requires most { size ≤ 65536 }
+        requires place { at < kept }
+        requires base { self.base ≤ kept }
+        ensures { result ≡ Spec.looked size self at byte }
+    {
+        if byte == 0 {
+            Some(self)
+        } else {
+            self.take(at, byte, size)
+        }
+    }
+}
+
+// What a record shows out, by its bytes. None where it is not sound.
+#[tactic(auto, using(crate::proofs::Multiples::size_tested, crate::proofs::Multiples::size_most))]
+pub fn scan(bytes: &[u8], size: u32) -> Option<Pass>
+    requires { Size size }
+    ensures passed { (k : ℕ) → IsSize k size → Spec.Passed bytes.now k result }
+    ensures most { ForSome result (λ p. p.base ≤ kept) }
+{
+    if bytes.len() != 65536 {
+        return None;
+    }
+    let mut seen = Pass { end: 0, base: 0 };
+    for i in 0..bytes.len() {
+        seen = seen.next(16 * i as u32, bytes[i], size)?;
+    }
+    Some(seen)
+}
