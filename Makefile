@@ -28,7 +28,7 @@ CALLS = cc100_instruction_c cc100_step_c cc100_run cc100_resume cc100_check cc10
     cc100_release
 BEGUN = cc100_run:28 cc100_check:16 cc100_check_straight:12
 PAGE = 4096
-PLAIN = bench/plain_read.c bench/plain_step.c bench/plain_check.c
+PLAIN = bench/plain_read.c bench/plain_step.c bench/plain_check.c bench/plain_areas.c
 TIMED = bench/timing.c $(PLAIN)
 # The benchmark of runs has one column more where Unicorn is installed (Debian's libunicorn-dev).
 UNICORN = $(shell pkg-config --exists unicorn 2> /dev/null && echo -DUNICORN bench/unicorn.c -lunicorn)

@@ -30,4 +30,11 @@ uint32_t plain_step(struct plain_state *s, uint8_t *memory, size_t length);
    A refusal (1 or 17) completes none. */
 uint32_t plain_run(struct plain_state *s, uint8_t *memory, size_t length, uint32_t budget, uint32_t *steps);
 
+/* The keeper of areas: the arguments and the answers of cc100_allocate and cc100_release. Those of the second names look at eight bytes of the
+   record at once. */
+typedef struct cc100_allocated plain_allocator(uint8_t *record, size_t record_length, uint32_t size);
+typedef uint32_t plain_releaser(uint8_t *record, size_t record_length, uint32_t base, uint32_t size);
+plain_allocator plain_allocate, plain_allocate_by_eight;
+plain_releaser plain_release, plain_release_by_eight;
+
 #endif

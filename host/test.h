@@ -132,6 +132,7 @@ void test_straight(void);
 void test_finish(void);
 void test_margin(void);
 void test_totals(void);
+void test_areas(void);
 void test_verdict(const char *program);
 
 #endif

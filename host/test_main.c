@@ -93,6 +93,7 @@ int main(int count, char **arguments)
     test_finish();
     test_margin();
     test_totals();
+    test_areas();
     test_verdict(arguments[1]);
     printf("host tests: %lu checks, %lu failed\n", checks, failures);
     return failures != 0;

@@ -23,7 +23,10 @@
 
    A module that cc100_check_straight accepts is confined too, and started as above it is known to finish: it meets its first exit after at
    most four fewer completed steps than it has words. It completes no more than that, however often it is resumed, until it is resumed at the
-   exit of its last bundle; and at any time a run of as many steps as it has words ends in an exit. */
+   exit of its last bundle; and at any time a run of as many steps as it has words ends in an exit.
+
+   Areas for modules are given by cc100_allocate and taken back by cc100_release, by a record that the host keeps. After every list of these
+   two calls on a record that began as zeros, refused calls included, no two areas out overlap. */
 #ifndef CC100_H
 #define CC100_H
 
@@ -35,10 +38,10 @@ extern "C" {
 #endif
 
 /* Numbers that calls answer: done, refusals as documents 01 and 02 number them, and exits. */
-#define CC100_DONE 0u /* a module accepted, a step completed, a run still running, a resume given, a word written */
+#define CC100_DONE 0u /* a module accepted, a step completed, a run still running, a resume given, a word written, an area given or taken back */
 
 #define CC100_REFUSED_MEMORY 1u         /* memory is longer than CC100_LONGEST_MEMORY */
-#define CC100_REFUSED_CODE_SIZE 2u      /* the code size is not a power of two from 16 to 65,536 */
+#define CC100_REFUSED_CODE_SIZE 2u      /* the code size, or an area's size, is not a power of two from 16 to 65,536 */
 #define CC100_REFUSED_DATA_SIZE 3u      /* the data size is not a power of two from 4 to 65,536 */
 #define CC100_REFUSED_CODE_AREA 4u      /* the code base is not a multiple of the code size, or the area is not inside memory */
 #define CC100_REFUSED_DATA_AREA 5u      /* the same for data */
@@ -59,8 +62,10 @@ extern "C" {
 #define CC100_REFUSED_STRAIGHT 20u      /* JR or JALR, or a direct target less than two words ahead or past the last bundle's start */
 #define CC100_REFUSED_LAST_BUNDLE 21u   /* the last bundle is not SYSCALL with code 0, a zero word, J to its own start, a zero word */
 #define CC100_REFUSED_MASK 22u          /* an access with its guard words whose mask m or offset breaks a multiple, sign or size rule */
+#define CC100_REFUSED_NO_SPACE 23u      /* at every multiple of its size an area would overlap one that is out */
+#define CC100_REFUSED_RECORD 24u        /* the keeper's record has another length or is not sound, or an area handed back is not out: see below */
 
-#define CC100_NO_PLACE 0xFFFFFFFFu /* the place of a verdict that names no word */
+#define CC100_NO_PLACE 0xFFFFFFFFu /* the place of a verdict that names no word, and the base of an area that is not given */
 
 #define CC100_EXIT_INTEGER_OVERFLOW 40u       /* the sum or difference of ADD, ADDI or SUB does not fit */
 #define CC100_EXIT_ADDRESS 41u                /* JR or JALR to an address that is not a multiple of 4 */
@@ -91,6 +96,13 @@ extern "C" {
 #define CC100_STATUS 152u         /* control register 12 */
 #define CC100_CAUSE 156u          /* control register 13 */
 #define CC100_RETURN_ADDRESS 160u /* control register 14 */
+
+/* The keeper gives areas of CC100_KEPT bytes of memory, from address 0 up, and its record has a byte for each 16 of them. A byte that is not 0 is
+   an area out: its base is 16 times the byte's index, its size 2 to the power of the byte. So a record of zeros has no area out. A record is
+   sound where it has CC100_RECORD_LENGTH bytes and of every area out the size is a power of two from 16 to 65,536, the base is a multiple of the
+   size, and the area lies inside the CC100_KEPT bytes and overlaps no other. */
+#define CC100_KEPT 1048576u
+#define CC100_RECORD_LENGTH 65536u
 
 /* The bit of the status that is the current mode: 1 user, 0 kernel. */
 #define CC100_STATUS_USER 8u
@@ -145,6 +157,11 @@ typedef struct cc100_written {
     uint32_t number, word;
 } cc100_written;
 
+/* An area that is given: `number` is CC100_DONE, and then `base` its address, or a refusal, and then `base` is CC100_NO_PLACE. */
+typedef struct cc100_allocated {
+    uint32_t number, base;
+} cc100_allocated;
+
 /* Checks a module before it is placed. `image` is its code, words little-endian. The layout is where it is to run: the memory's length, and
    the base and size of the areas for code and data; docs/REFUSALS.md says what each refusal means.
    Refuses 1 to 7, in this order, by the layout and the image's length; then by the words from index 0 up, each tried with 8 to 12, 22 and 13 to
@@ -192,6 +209,20 @@ cc100_instruction cc100_read(uint32_t word);
 /* Writes the word of an instruction. Refuses, by CC100_REFUSED_INSTRUCTION, a kind that is not 1 to 72, a field that does not fit its
    place in the word, a control register other than 8, 12, 13 and 14, and a field that is not 0 where the kind does not have it. */
 cc100_written cc100_write(uint32_t kind, uint32_t rs, uint32_t rt, uint32_t rd, uint32_t shift, uint32_t value);
+
+/* Gives an area of `size` bytes: at the lowest base that is a multiple of the size and where the area overlaps none that is out.
+   Refuses, in this order: CC100_REFUSED_CODE_SIZE, a size that is not a power of two from 16 to 65,536; CC100_REFUSED_RECORD, a record that is
+   not sound; CC100_REFUSED_NO_SPACE, exactly where a sound record has no such base.
+   Answers CC100_DONE and the base, and leaves the record as it was but for the byte of that base, which becomes the power of the size. As
+   an area for code or for data it breaks none of the checker's rules 2 to 5, in every memory of CC100_KEPT bytes or more. To give an area and
+   take it back leaves the record byte for byte as it was. */
+cc100_allocated cc100_allocate(uint8_t *record, size_t record_length, uint32_t size);
+
+/* Takes back an area, which is free again.
+   Refuses, in this order: CC100_REFUSED_CODE_SIZE, as above; CC100_REFUSED_RECORD, a record that is not sound, or an area of this base and this
+   size that is not out, also where the base is no multiple of 16 or past the memory.
+   Answers CC100_DONE, and leaves the record as it was but for the byte of that base, which becomes 0. */
+uint32_t cc100_release(uint8_t *record, size_t record_length, uint32_t base, uint32_t size);
 
 #ifdef __cplusplus
 }

@@ -1,7 +1,7 @@
-/* A second CC100-C machine, reader, writer and checker, written from documents 004 and 01 and tickets 1, 2, 4 and 5 of document 02 alone. It shares
-   nothing with the product: neither its Rattle sources nor its C header. It is meant to be read beside the documents, not to be fast.
+/* A second CC100-C machine, reader, writer, checker and keeper of areas, written from documents 004 and 01 and tickets 1, 2 and 4 to 6 of document 02
+   alone. It shares nothing with the product: neither its Rattle sources nor its C header. It is meant to be read beside the documents, not to be fast.
 
-   The numbers that it gives are those of documents 01 and 02: 0 for done, 1 to 22 for refusals, 40 to 52 for exits. */
+   The numbers that it gives are those of documents 01 and 02: 0 for done, 1 to 24 for refusals, 40 to 52 for exits. */
 #ifndef EMULATOR_H
 #define EMULATOR_H
 
@@ -58,5 +58,9 @@ void em_print_verdict(em_checker *checker, const struct em_module *m); /* as the
    that lie whole in the image. The second has 20 and 21 too. */
 uint32_t em_broken(const struct em_module *m);
 uint32_t em_broken_straight(const struct em_module *m);
+
+/* The keeper of areas: 0, or the refusal, 2, 23 or 24, and then the record is left as it was. The base is EM_NO_PLACE where none is given. */
+uint32_t em_allocate(uint8_t *record, size_t record_length, uint32_t size, uint32_t *base);
+uint32_t em_release(uint8_t *record, size_t record_length, uint32_t base, uint32_t size);
 
 #endif

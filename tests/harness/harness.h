@@ -175,6 +175,7 @@ void test_changed(void);
 void test_rules(void);
 void test_documents(void);
 void test_straight(void);
+void test_areas(void);
 
 /* And those of changed.c and rules.c for straight-through modules. */
 void test_changed_straight(void);

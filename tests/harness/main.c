@@ -149,6 +149,7 @@ int main(int count, char **arguments)
     test_changed_straight();
     test_rules_straight();
     test_straight();
+    test_areas();
     printf("harness: %" PRIu64 " comparisons, %" PRIu64 " differences\n", comparisons, differences);
     return differences != 0;
 }

@@ -1,0 +1,408 @@
+/* Areas given and taken back: ticket 6's cases by hand, random records, damaged ones, and lists of calls on one record. After every call the
+   whole record is compared. */
+#include <string.h>
+
+#include "areas.h"
+
+#define RECORDS 2500
+#define CALLS 12 /* on one record, at most */
+#define DAMAGED 6000
+#define OTHER_LENGTHS 1500
+#define LISTS 40
+#define LIST_CALLS 300
+#define LEAST 100 /* times that everything counted has to happen */
+#define LONGEST_RECORD (2 * CC100_RECORD_LENGTH)
+#define NUMBERS (CC100_REFUSED_RECORD + 1)
+#define WAYS 14u /* to hand back */
+
+enum { EMULATOR, PRODUCT, PLAIN, BY_EIGHT, KEEPERS };
+
+/* Those that are compared with the emulator. */
+static const struct {
+    const char *allocate_name, *release_name;
+    plain_allocator *allocate;
+    plain_releaser *release;
+} keepers[KEEPERS] = {
+    [PRODUCT] = {"cc100_allocate", "cc100_release", cc100_allocate, cc100_release},
+    [PLAIN] = {"plain_allocate", "plain_release", plain_allocate, plain_release},
+    [BY_EIGHT] = {"plain_allocate_by_eight", "plain_release_by_eight", plain_allocate_by_eight, plain_release_by_eight},
+};
+
+/* What each works on, and what the calls so far should have left. */
+static struct lent records[KEEPERS], wanted;
+
+struct area {
+    uint32_t base, size;
+};
+
+static struct counts {
+    unsigned long given[NUMBERS], taken[NUMBERS], styles[STYLES], ways[WAYS], again;
+    unsigned long damages[DAMAGES], lengths, size_first, record_first, full, most_out;
+} counts;
+
+static void begin_record(uint32_t length)
+{
+    for (int i = 0; i < KEEPERS; i++)
+        set_length(&records[i], length);
+    set_length(&wanted, length);
+    memset(records[EMULATOR].bytes, 0, length);
+}
+
+/* All work on what the emulator's record has now. */
+static void share_record(void)
+{
+    for (int i = 1; i < KEEPERS; i++)
+        copy_lent(&records[i], &records[EMULATOR]);
+    copy_lent(&wanted, &records[EMULATOR]);
+}
+
+/* The byte that a call may have changed, and no other, in each of the records. */
+static void same_records(const char *call, uint32_t number, uint32_t base, uint8_t byte)
+{
+    now.call = call;
+    if (number == CC100_DONE)
+        wanted.bytes[base / 16] = byte;
+    for (int i = 0; i < KEEPERS; i++)
+        same_lent(i == EMULATOR ? "the emulator's record" : "record", &wanted, &records[i]);
+}
+
+static uint8_t power_of(uint32_t size)
+{
+    uint8_t power = SMALLEST_POWER;
+    while (power < LARGEST_POWER && size != 16 * sixteens(power))
+        power++;
+    return power;
+}
+
+/* Both give the emulator's number. */
+static uint32_t compare_allocate(uint32_t size, uint32_t *base)
+{
+    uint32_t number = em_allocate(records[EMULATOR].bytes, records[EMULATOR].length, size, base);
+    now.word = size;
+    for (int i = 1; i < KEEPERS; i++) {
+        now.call = keepers[i].allocate_name;
+        cc100_allocated came = keepers[i].allocate(records[i].bytes, records[i].length, size);
+        same_number("number", number, came.number);
+        same_number("base", *base, came.base);
+    }
+    same_records("after the allocations", number, *base, power_of(size));
+    counts.given[number]++;
+    return number;
+}
+
+static uint32_t compare_release(struct area a)
+{
+    uint32_t number = em_release(records[EMULATOR].bytes, records[EMULATOR].length, a.base, a.size);
+    now.word = a.size;
+    for (int i = 1; i < KEEPERS; i++) {
+        now.call = keepers[i].release_name;
+        same_number("number", number, keepers[i].release(records[i].bytes, records[i].length, a.base, a.size));
+    }
+    same_records("after the releases", number, a.base, 0);
+    counts.taken[number]++;
+    return number;
+}
+
+/* The ticket's own answers, worked out from it by hand: what stands in a record, and a call. A base of NOWHERE asks for an area. */
+static const struct by_hand {
+    const char *name;
+    uint32_t bytes[3][2]; /* index and byte */
+    uint32_t length;
+    struct area call;
+    uint32_t number, base;
+} cases[] = {
+    {"16 of all", {{0}}, 65536, {NOWHERE, 16}, 0, 0},
+    {"65,536 of all", {{0}}, 65536, {NOWHERE, 65536}, 0, 0},
+    {"16 behind 16", {{0, 4}}, 65536, {NOWHERE, 16}, 0, 0x10},
+    {"32 behind 16", {{0, 4}}, 65536, {NOWHERE, 32}, 0, 0x20},
+    {"65,536 behind 16", {{0, 4}}, 65536, {NOWHERE, 65536}, 0, 0x10000},
+    {"16 before 16", {{1, 4}}, 65536, {NOWHERE, 16}, 0, 0},
+    {"32 past a gap of 16", {{0, 5}, {3, 4}}, 65536, {NOWHERE, 32}, 0, 0x40},
+    {"16 in that gap", {{0, 5}, {3, 4}}, 65536, {NOWHERE, 16}, 0, 0x20},
+    {"size 0", {{0}}, 65536, {NOWHERE, 0}, 2, NOWHERE},
+    {"size 8", {{0}}, 65536, {NOWHERE, 8}, 2, NOWHERE},
+    {"size 24", {{0}}, 65536, {NOWHERE, 24}, 2, NOWHERE},
+    {"size 131,072", {{0}}, 65536, {NOWHERE, 131072}, 2, NOWHERE},
+    {"2 before 24 by length", {{0}}, 65535, {NOWHERE, 17}, 2, NOWHERE},
+    {"2 before 24 by k", {{9, 3}}, 65536, {NOWHERE, 17}, 2, NOWHERE},
+    {"no record", {{0}}, 0, {NOWHERE, 16}, 24, NOWHERE},
+    {"a byte too few", {{0}}, 65535, {NOWHERE, 16}, 24, NOWHERE},
+    {"a byte too many", {{0}}, 65537, {NOWHERE, 16}, 24, NOWHERE},
+    {"k 3", {{65535, 3}}, 65536, {NOWHERE, 16}, 24, NOWHERE},
+    {"k 17", {{0, 17}}, 65536, {NOWHERE, 16}, 24, NOWHERE},
+    {"32 at 0x10", {{1, 5}}, 65536, {NOWHERE, 16}, 24, NOWHERE},
+    {"65,536 at the last sixteen", {{65535, 16}}, 65536, {NOWHERE, 16}, 24, NOWHERE},
+    {"16 inside 32", {{0, 5}, {1, 4}}, 65536, {NOWHERE, 16}, 24, NOWHERE},
+    {"16 at the end of 65,536", {{0, 16}, {4095, 4}}, 65536, {NOWHERE, 16}, 24, NOWHERE},
+    {"16 behind 65,536", {{0, 16}, {4096, 4}}, 65536, {NOWHERE, 16}, 0, 0x10010},
+    {"back", {{2, 5}}, 65536, {0x20, 32}, 0, 0},
+    {"back by another size", {{2, 5}}, 65536, {0x20, 16}, 24, 0},
+    {"its second half", {{2, 5}}, 65536, {0x30, 16}, 24, 0},
+    {"a byte on", {{2, 5}}, 65536, {0x21, 32}, 24, 0},
+    {"past the memory", {{2, 5}}, 65536, {0x100020, 32}, 24, 0},
+    {"back by no size", {{2, 5}}, 65536, {0x20, 31}, 2, 0},
+    {"back, of none", {{0}}, 65536, {0, 16}, 24, 0},
+    {"back, of a record with k 2", {{2, 5}, {9, 2}}, 65536, {0x20, 32}, 24, 0},
+};
+
+static void try_by_hand(const struct by_hand *c)
+{
+    uint32_t base = NOWHERE;
+    begin_record(c->length);
+    for (size_t i = 0; i < COUNT(c->bytes); i++)
+        if (c->bytes[i][0] < c->length)
+            records[EMULATOR].bytes[c->bytes[i][0]] |= (uint8_t)c->bytes[i][1];
+    share_record();
+    now.name = c->name;
+    uint32_t number = c->call.base == NOWHERE ? compare_allocate(c->call.size, &base) : compare_release(c->call);
+    now.call = "the emulator's keeper";
+    same_number("number", c->number, number);
+    if (c->call.base == NOWHERE)
+        same_number("base", c->base, base);
+}
+
+static uint32_t right_size(void) { return 16 * sixteens(SMALLEST_POWER + below(POWERS)); }
+
+/* Mostly a power of two, mostly a right one. */
+static uint32_t any_size(void)
+{
+    static const uint32_t wrong[] = {
+        0, 1, 2, 4, 8, 12, 15, 17, 24, 31, 33, 48, 96, 4095, 4097, 65535, 65537, 65552, 98304, 131072, 0x10010, 0x00100000, 0x00110000,
+        0x7FFFFFFF, 0x80000000, 0x80000010, 0xC0000000, 0xFFFF0000, 0xFFFFFFF0, 0xFFFFFFFF
+    };
+    switch (below(10)) {
+    case 0: return PICK(wrong);
+    case 1: return right_size() - 1 + 2 * below(2);
+    case 2: return 1u << below(32);
+    case 3: return random_value(CC100_KEPT);
+    default: return right_size();
+    }
+}
+
+static const char *const ways[WAYS] = {
+    "what is out", "its first half", "its second half", "twice its size", "another size", "a byte on", "a byte back", "16 on", "16 back",
+    "its size on", "its size back", "past the memory", "the last of all addresses", "anything",
+};
+
+/* What is handed back, of an area out. */
+static struct area handed_back(struct area out, uint32_t way)
+{
+    switch (way) {
+    case 1: return (struct area){out.base, out.size / 2};
+    case 2: return (struct area){out.base + out.size / 2, out.size / 2};
+    case 3: return (struct area){out.base, 2 * out.size};
+    case 4: return (struct area){out.base, any_size()};
+    case 5: return (struct area){out.base + 1, out.size};
+    case 6: return (struct area){out.base - 1, out.size};
+    case 7: return (struct area){out.base + 16, out.size};
+    case 8: return (struct area){out.base - 16, out.size};
+    case 9: return (struct area){out.base + out.size, out.size};
+    case 10: return (struct area){out.base - out.size, out.size};
+    case 11: return (struct area){out.base + CC100_KEPT * (1 + below(4095)), out.size};
+    case 12: return (struct area){0xFFFFFFFFu - 15 * below(2), out.size};
+    case 13: return (struct area){random_value(CC100_KEPT), any_size()};
+    default: return out;
+    }
+}
+
+/* Some area out, or what could be one where there is none, or where its byte says no size. */
+static struct area some_area(void)
+{
+    const uint8_t *record = records[EMULATOR].bytes;
+    uint32_t at = records[EMULATOR].length < CC100_RECORD_LENGTH ? NOWHERE : any_area(record);
+    if (at == NOWHERE || record[at] < SMALLEST_POWER || record[at] > LARGEST_POWER)
+        return (struct area){16 * below(CC100_RECORD_LENGTH), right_size()};
+    return (struct area){16 * at, 16 * sixteens(record[at])};
+}
+
+static uint32_t give_back_some(void)
+{
+    uint32_t way = below(2) ? below(WAYS) : 0;
+    counts.ways[way]++;
+    return compare_release(handed_back(some_area(), way));
+}
+
+/* An area given and taken back at once leaves the record byte for byte as it was. */
+static void give_and_take_back(void)
+{
+    static struct lent saved;
+    uint32_t base, size = right_size();
+    if (!saved.bytes)
+        saved = room_for(LONGEST_RECORD);
+    copy_lent(&saved, &records[PRODUCT]);
+    if (compare_allocate(size, &base) != CC100_DONE)
+        return;
+    same_number("number of the area given", CC100_DONE, compare_release((struct area){base, size}));
+    same_lent("record after both", &saved, &records[PRODUCT]);
+    counts.again++;
+}
+
+static void try_record(void)
+{
+    uint32_t style = (uint32_t)now.turn % STYLES, base;
+    begin_record(CC100_RECORD_LENGTH);
+    make_record(records[EMULATOR].bytes, &styles[style]);
+    share_record();
+    now.name = styles[style].name;
+    counts.styles[style]++;
+    for (uint32_t calls = 1 + below(CALLS); calls > 0; calls--)
+        switch (below(5)) {
+        case 0: case 1: compare_allocate(any_size(), &base); break;
+        case 2: give_and_take_back(); break;
+        default: give_back_some(); break;
+        }
+}
+
+/* What every call must answer to a record that is not sound: 2 where the size is wrong, and else 24, also where no base exists. */
+static void refuse_record(int full)
+{
+    struct area a = some_area();
+    uint32_t base;
+    same_number("number of an allocation", CC100_REFUSED_RECORD, compare_allocate(right_size(), &base));
+    same_number("number of a release", CC100_REFUSED_RECORD, compare_release(a));
+    a.size = any_size();
+    counts.size_first += compare_allocate(a.size, &base) == CC100_REFUSED_CODE_SIZE;
+    counts.size_first += compare_release(a) == CC100_REFUSED_CODE_SIZE;
+    counts.record_first += (unsigned long)full;
+}
+
+static int is_full(const struct style *s) { return s->out == 100 && !s->gap; }
+
+/* Not every damage can be done to every record. */
+static void try_damaged(void)
+{
+    uint32_t damage = (uint32_t)now.turn % DAMAGES, style;
+    begin_record(CC100_RECORD_LENGTH);
+    do {
+        style = below(STYLES);
+        make_record(records[EMULATOR].bytes, &styles[style]);
+    } while (!damages[damage].change(records[EMULATOR].bytes));
+    share_record();
+    now.name = damages[damage].name;
+    refuse_record(is_full(&styles[style]));
+    counts.damages[damage]++;
+}
+
+static void try_length(void)
+{
+    static const uint32_t lengths[] = {0, 1, 16, 4096, 65535, 65535, 65537, 65537, 65552, LONGEST_RECORD};
+    static uint8_t made[CC100_RECORD_LENGTH];
+    const struct style *s = &styles[below(STYLES)];
+    uint32_t length = below(2) ? PICK(lengths) : below(LONGEST_RECORD + 1);
+    length += length == CC100_RECORD_LENGTH;
+    make_record(made, s);
+    begin_record(length);
+    memcpy(records[EMULATOR].bytes, made, length < sizeof made ? length : sizeof made);
+    share_record();
+    now.name = "length";
+    refuse_record(is_full(s));
+    counts.lengths++;
+}
+
+/* The areas that a list of calls was given and has not handed back, kept beside its record. */
+static struct model {
+    uint32_t count;
+    struct area areas[LIST_CALLS];
+} model;
+
+static uint32_t overlapping(struct area a)
+{
+    uint32_t count = 0;
+    for (uint32_t i = 0; i < model.count; i++)
+        count += a.base < model.areas[i].base + model.areas[i].size && model.areas[i].base < a.base + a.size;
+    return count;
+}
+
+static void give_in_list(uint32_t size)
+{
+    struct area a = {0, size};
+    uint32_t number = compare_allocate(size, &a.base);
+    counts.full += number == CC100_REFUSED_NO_SPACE;
+    if (number != CC100_DONE)
+        return;
+    same_number("areas out that it overlaps", 0, overlapping(a));
+    same_number("its base by its size", 0, a.base % size);
+    same_number("it is inside", 1, a.base + (uint64_t)size <= CC100_KEPT);
+    model.areas[model.count++] = a;
+    if (model.count > counts.most_out)
+        counts.most_out = model.count;
+}
+
+static void take_back_in_list(void)
+{
+    uint32_t i = below(model.count);
+    same_number("number of an area that is out", CC100_DONE, compare_release(model.areas[i]));
+    model.areas[i] = model.areas[--model.count];
+}
+
+/* Some lists want large areas only, and fill the memory; refused calls stand among the others. At the end all is handed back. */
+static void try_list(void)
+{
+    uint32_t least = SMALLEST_POWER + below(POWERS), base;
+    begin_record(CC100_RECORD_LENGTH);
+    share_record();
+    now.name = "list";
+    model.count = 0;
+    for (uint32_t calls = 0; calls < LIST_CALLS; calls++) {
+        uint32_t choice = below(10), size = 16 * sixteens(least + below(LARGEST_POWER - least + 1));
+        if (choice < 6)
+            give_in_list(size);
+        else if (choice < 8 && model.count > 0)
+            take_back_in_list();
+        else if (choice == 8)
+            compare_release((struct area){16 * below(CC100_RECORD_LENGTH) + 8, size});
+        else
+            compare_allocate(size + 1 + below(15), &base);
+    }
+    while (model.count > 0)
+        take_back_in_list();
+    same_number("an area out at the end", NOWHERE, any_area(records[PRODUCT].bytes));
+}
+
+static void require_counts(void)
+{
+    now.name = "count";
+    at_least("areas given", 10 * LEAST, counts.given[CC100_DONE]);
+    at_least("areas not given by 2", 10 * LEAST, counts.given[CC100_REFUSED_CODE_SIZE]);
+    at_least("areas not given by 23", 10 * LEAST, counts.given[CC100_REFUSED_NO_SPACE]);
+    at_least("areas not given by 24", 10 * LEAST, counts.given[CC100_REFUSED_RECORD]);
+    at_least("areas taken back", 10 * LEAST, counts.taken[CC100_DONE]);
+    at_least("areas not taken back by 2", 10 * LEAST, counts.taken[CC100_REFUSED_CODE_SIZE]);
+    at_least("areas not taken back by 24", 10 * LEAST, counts.taken[CC100_REFUSED_RECORD]);
+    at_least("areas given and taken back at once", LEAST, counts.again);
+    at_least("records of another length", 10 * LEAST, counts.lengths);
+    at_least("2 before 24", LEAST, counts.size_first);
+    at_least("24 where no base exists", LEAST, counts.record_first);
+    at_least("23 in lists", LEAST, counts.full);
+    at_least("areas out in a list", LEAST, counts.most_out);
+    for (now.word = 0; now.word < STYLES; now.word++)
+        at_least(styles[now.word].name, LEAST, counts.styles[now.word]);
+    for (now.word = 0; now.word < DAMAGES; now.word++)
+        at_least(damages[now.word].name, LEAST, counts.damages[now.word]);
+    for (now.word = 0; now.word < WAYS; now.word++)
+        at_least(ways[now.word], LEAST, counts.ways[now.word]);
+}
+
+static void repeat(uint64_t times, void (*part)(void))
+{
+    for (now.turn = 0; now.turn < times * rounds; now.turn++)
+        part();
+}
+
+void test_areas(void)
+{
+    begin_part("areas");
+    for (int i = 0; i < KEEPERS; i++)
+        records[i] = room_for(LONGEST_RECORD);
+    wanted = room_for(LONGEST_RECORD);
+    for (size_t i = 0; i < COUNT(cases); i++)
+        try_by_hand(&cases[i]);
+    repeat(RECORDS, try_record);
+    repeat(DAMAGED, try_damaged);
+    repeat(OTHER_LENGTHS, try_length);
+    repeat(LISTS, try_list);
+    require_counts();
+    end_part("%lu areas given, not by 2 %lu, by 23 %lu, by 24 %lu; %lu taken back, not by 2 %lu, by 24 %lu; of %d kinds of damage:%s, of another "
+             "length %lu; up to %lu out in a list", counts.given[0], counts.given[2], counts.given[23], counts.given[24], counts.taken[0],
+             counts.taken[2], counts.taken[24], (int)DAMAGES, listed(counts.damages, 0, DAMAGES - 1), counts.lengths, counts.most_out);
+}
