@@ -59,7 +59,7 @@ static uint8_t *room(void)
 
 static void expect_record(const uint8_t *record, size_t length)
 {
-    size_t i = 0;
+    size_t i = memcmp(record, wanted, length) == 0 ? length : 0;
     while (i < length && record[i] == wanted[i])
         i++;
     expect_number("bytes that are as wanted, before another", (uint32_t)length, (uint32_t)i);
@@ -124,8 +124,8 @@ static void expect_not_taken(const char *what, uint32_t base, uint32_t size, uin
 /* A record that is not sound, whatever is wanted or handed back. */
 static void expect_unsound(const char *what, size_t length)
 {
-    for (uint32_t size = SMALLEST; size <= LARGEST; size *= 2)
-        expect_allocation(what, length, size, CC100_REFUSED_RECORD, CC100_NO_PLACE);
+    expect_allocation(what, length, SMALLEST, CC100_REFUSED_RECORD, CC100_NO_PLACE);
+    expect_allocation(what, length, LARGEST, CC100_REFUSED_RECORD, CC100_NO_PLACE);
     expect_allocation(what, length, SMALLEST - 1, CC100_REFUSED_CODE_SIZE, CC100_NO_PLACE);
     expect_release(what, length, 0, SMALLEST, CC100_REFUSED_RECORD);
     expect_release(what, length, 0, LARGEST, CC100_REFUSED_RECORD);
@@ -202,22 +202,12 @@ static void spread(void)
     expect_given("the last of them back", LARGEST, CC100_KEPT - LARGEST);
 }
 
-/* Hands back every second area of 16. Gives how many answers are wrong. */
-static uint32_t take_every_second(uint8_t *record, uint32_t first)
-{
-    uint32_t wrong = 0;
-    for (uint32_t i = first; i < LENGTH; i += 2)
-        wrong += cc100_release(record, LENGTH, SMALLEST * i, SMALLEST) != CC100_DONE;
-    return wrong;
-}
-
-/* 65,536 areas of 16 by 65,536 calls, each on what the one before it left; then all are handed back. */
+/* 65,536 areas of 16 by 65,536 calls, each on what the one before it left; then every sixteenth is handed back. */
 static void all_of_the_smallest(void)
 {
-    uint8_t *record = room() + ROOM - LENGTH;
+    uint8_t *record = lent(room(), LENGTH, 0);
     uint32_t wrong = 0;
-    empty();
-    lent(room(), LENGTH, 0);
+    memset(record, 0, LENGTH);
     calling("65,536 allocations of 16");
     for (uint32_t i = 0; i < LENGTH; i++) {
         cc100_allocated a = cc100_allocate(record, LENGTH, SMALLEST);
@@ -227,9 +217,12 @@ static void all_of_the_smallest(void)
     memset(wanted, SMALLEST_POWER, LENGTH);
     expect_record(record, LENGTH);
     expect_number("number of one more", CC100_REFUSED_NO_SPACE, cc100_allocate(record, LENGTH, SMALLEST).number);
-    calling("65,536 releases of 16");
-    expect_number("answers that are wrong", 0, take_every_second(record, 1) + take_every_second(record, 0));
-    memset(wanted, 0, LENGTH);
+    calling("4,096 releases of 16");
+    for (uint32_t i = 0; i < LENGTH; i += 16) {
+        wrong += cc100_release(record, LENGTH, SMALLEST * i, SMALLEST) != CC100_DONE;
+        wanted[i] = 0;
+    }
+    expect_number("answers that are wrong", 0, wrong);
     expect_record(record, LENGTH);
 }
 

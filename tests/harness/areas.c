@@ -4,13 +4,13 @@
 
 #include "areas.h"
 
-#define RECORDS 2500
+#define RECORDS 1300
 #define CALLS 12 /* on one record, at most */
-#define DAMAGED 6000
-#define OTHER_LENGTHS 1500
-#define LISTS 40
+#define DAMAGED 1500
+#define OTHER_LENGTHS 600
+#define LISTS 16
 #define LIST_CALLS 300
-#define LEAST 100 /* times that everything counted has to happen */
+#define LEAST 50 /* times that everything counted has to happen */
 #define LONGEST_RECORD (2 * CC100_RECORD_LENGTH)
 #define NUMBERS (CC100_REFUSED_RECORD + 1)
 #define WAYS 14u /* to hand back */
