@@ -1,5 +1,6 @@
 /* What the subcommands of cc100 share. Nothing here decides what a call of cc100.h decides: what a word is comes from cc100_read, what a
-   module may do from cc100_check and cc100_check_straight, and what it does from cc100_run and cc100_step. */
+   module may do from cc100_check and cc100_check_straight, what it does from cc100_run and cc100_step, and which areas are given and taken back
+   from cc100_allocate and cc100_release. */
 #ifndef COMMAND_H
 #define COMMAND_H
 
@@ -32,6 +33,7 @@ struct options {
     bool code_size_given; /* else it is the module's length */
     bool json, steps;
     bool straight; /* the module is to be straight-through */
+    bool list;     /* the areas are to be listed */
     const char *rows, *figures; /* files, or NULL */
     uint64_t budget;            /* steps of a whole run */
     uint64_t number;            /* that is asked for */
@@ -41,7 +43,7 @@ struct options {
 };
 
 /* The subcommands. Each has a bit, by which an option names those that take it. */
-enum { CHECK = 1, EXPLAIN = 2, LIST = 4, RUN = 8, TABLES = 16 };
+enum { CHECK = 1, EXPLAIN = 2, LIST = 4, RUN = 8, TABLES = 16, AREAS = 32 };
 struct subcommand {
     unsigned bit;
     const char *name, *arguments, *summary, *description;
@@ -49,10 +51,13 @@ struct subcommand {
     enum status (*work)(const struct options *);
 };
 #define ANY_NUMBER INT_MAX /* of files */
-extern const struct subcommand check_command, explain_command, list_command, run_command, tables_command;
+extern const struct subcommand check_command, explain_command, list_command, run_command, tables_command, areas_command;
 
 /* options.c: reads the options and files of a subcommand. Gives whether there is work to do; else *status is what the command ends with. */
 bool read_options(const struct subcommand *s, int count, char **arguments, struct options *o, enum status *status);
+
+/* The whole text is digits, decimal or after 0x hexadecimal, of a number up to the largest. */
+bool read_natural(const char *text, uint64_t largest, uint64_t *number);
 
 /* Says that the usage is wrong, and what is right; of cc100 itself where the subcommand is NULL. */
 enum status wrong_usage(const struct subcommand *s, const char *format, ...) __attribute__((format(printf, 2, 3)));
@@ -93,7 +98,7 @@ struct refusal {
 struct exit_name {
     const char *name, *when;
 };
-#define LAST_REFUSAL 22u
+#define LAST_REFUSAL 24u
 #define FIRST_EXIT CC100_EXIT_INTEGER_OVERFLOW
 #define LAST_EXIT CC100_EXIT_STOP_CORES
 const struct refusal *refusal_of(uint32_t number); /* NULL where there is none */

@@ -1,15 +1,18 @@
-/* cc100: checks, explains, lists and runs report modules, and prints the tables of the instructions. */
+/* cc100: checks, explains, lists and runs report modules, prints the tables of the instructions, and keeps areas of memory. */
 #include <string.h>
 
 #include "command.h"
 
-static const struct subcommand *const subcommands[] = {&check_command, &explain_command, &list_command, &run_command, &tables_command};
+static const struct subcommand *const subcommands[] = {
+    &check_command, &explain_command, &list_command, &run_command, &tables_command, &areas_command,
+};
 #define SUBCOMMANDS (sizeof subcommands / sizeof subcommands[0])
 
 static void print_help(void)
 {
     printf("usage: cc100 COMMAND [OPTION]... [FILE]...\n\n"
-           "Report modules in CC100-C machine code: checked, explained, listed and run.\n\n"
+           "Report modules in CC100-C machine code: checked, explained, listed and run, and\n"
+           "given areas of memory.\n\n"
            "commands:\n");
     for (size_t i = 0; i < SUBCOMMANDS; i++)
         printf("  %-20s  %s\n", subcommands[i]->name, subcommands[i]->summary);
@@ -17,7 +20,7 @@ static void print_help(void)
            "  --help                says this; 'cc100 COMMAND --help' says more of a command\n"
            "  --version             says the version\n\n"
            "FILE is a module: 16-byte bundles of four words, without a header. - stands for\n"
-           "standard input.\n\n"
+           "standard input. Of areas it is the record.\n\n"
            "Exit status: 0 done or accepted, 1 refused or not complete, 2 not to be done\n"
            "(wrong usage, a file that cannot be read or written).\n");
 }

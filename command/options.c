@@ -13,7 +13,7 @@
 
 /* Every subcommand that takes a module, and every one. */
 #define MODULE (CHECK | EXPLAIN | LIST | RUN)
-#define EVERY (MODULE | TABLES)
+#define EVERY (MODULE | TABLES | AREAS)
 
 enum value { FLAG, WORD, LONG, FILE_NAME };
 
@@ -25,12 +25,13 @@ struct row {
 };
 
 /* The numbers of these rows are what the parser answers. */
-enum { HELP, JSON, STRAIGHT, NUMBER, ROWS, FIGURES, BUDGETED, STEPS, LENGTH, CODE_AT, CODE_LENGTH, DATA_AT, DATA_LENGTH, OPTIONS };
+enum { HELP, JSON, STRAIGHT, LISTED, NUMBER, ROWS, FIGURES, BUDGETED, STEPS, LENGTH, CODE_AT, CODE_LENGTH, DATA_AT, DATA_LENGTH, OPTIONS };
 
 static const struct row rows[OPTIONS] = {
     [HELP] = {"help", FLAG, EVERY, "", "says this"},
-    [JSON] = {"json", FLAG, CHECK | EXPLAIN | RUN | TABLES, "", "prints one JSON object a line"},
+    [JSON] = {"json", FLAG, CHECK | EXPLAIN | RUN | TABLES | AREAS, "", "prints one JSON object a line"},
     [STRAIGHT] = {"straight", FLAG, CHECK | EXPLAIN | RUN, "", "takes only straight-through modules, known to finish"},
+    [LISTED] = {"list", FLAG, AREAS, "", "for show: lists the areas that are out too"},
     [NUMBER] = {"number", WORD, EXPLAIN, "N", "explains a number alone, of a refusal or an exit"},
     [ROWS] = {"rows", FILE_NAME, RUN, "FILE", "a line of quantity, cost and price for each row"},
     [FIGURES] = {"figures", FILE_NAME, RUN, "FILE", "whole numbers that the module can ask for"},
@@ -69,7 +70,7 @@ static void print_help(const struct subcommand *s)
             printf("  --%-18s  %s\n", named, rows[i].help);
         }
     if (s->most_files)
-        printf("\nNumbers are decimal or hexadecimal (4096 or 0x1000). - stands for standard input.\n");
+        printf("\nNumbers are decimal or hexadecimal (4096 or 0x1000).%s\n", s->bit & MODULE ? " - stands for standard input." : "");
     printf("\nExit status: 0 done or accepted, 1 refused or not complete, 2 not to be done\n"
            "(wrong usage, a file that cannot be read or written).\n");
 }
@@ -98,8 +99,7 @@ static unsigned digit_of(char c)
     return c >= 'A' && c <= 'F' ? (unsigned)(c - 'A') + 10 : 16;
 }
 
-/* The whole text is digits, decimal or after 0x hexadecimal, of a number up to the largest. */
-static bool read_number(const char *text, uint64_t largest, uint64_t *number)
+bool read_natural(const char *text, uint64_t largest, uint64_t *number)
 {
     bool hexadecimal = text[0] == '0' && (text[1] == 'x' || text[1] == 'X');
     const char *digits = hexadecimal ? text + 2 : text;
@@ -119,6 +119,7 @@ static void put(struct options *o, int row, uint64_t number, const char *text)
     switch (row) {
     case JSON: o->json = true; break;
     case STRAIGHT: o->straight = true; break;
+    case LISTED: o->list = true; break;
     case NUMBER: o->number = number, o->number_given = true; break;
     case ROWS: o->rows = text; break;
     case FIGURES: o->figures = text; break;
@@ -137,7 +138,7 @@ static bool take(const struct subcommand *s, struct options *o, int row, const c
 {
     uint64_t number = 0, largest = rows[row].value == LONG ? UINT64_MAX : UINT32_MAX;
     bool numeric = rows[row].value == WORD || rows[row].value == LONG;
-    if (numeric && !read_number(text, largest, &number)) {
+    if (numeric && !read_natural(text, largest, &number)) {
         wrong_usage(s, "--%s takes a number from 0 to %" PRIu64 ", decimal or hexadecimal, not '%s'", rows[row].name, largest, text);
         return false;
     }

@@ -7,12 +7,17 @@
 #define COMPILER \
     "Whoever writes the compiler. First compare the file with the one that the compiler wrote, by length and checksum: where they differ, " \
     "fetch it again. The author of the report cannot mend it."
+#define SIZES \
+    "Of a module, first whoever sent the file: it may have been cut off or added to on its way. Where it is whole, whoever set up the server. " \
+    "Of an area, whoever asked for it or handed it back."
 #define HOST "Whoever writes the host program: the number is about its call, and not about the module."
+#define KEEPER "Whoever places modules by the record: the number is about the areas that are out, and not about a module."
 
 static const struct refusal refusals[LAST_REFUSAL] = {
     {"Memory is longer than 16,777,216 bytes.", "16,777,217 bytes", "Lend less.", SERVER},
-    {"The code size is not a power of two from 16 to 65,536.", "24",
-     "See that the file is whole. The compiler fills a module up to such a size, before its last jump.", SENDER},
+    {"The code size, or an area's size, is not a power of two from 16 to 65,536.", "24",
+     "See that the file is whole. The compiler fills a module up to such a size, before its last jump. Of an area: ask for the next larger of "
+     "these sizes, or hand it back with the size that it was given with.", SIZES},
     {"The data size is not a power of two from 4 to 65,536.", "2", "Give the module the next larger size.", SERVER},
     {"The code base is not a multiple of the code size, or the code is not wholly inside memory.", "base 0x10010",
      "Choose another base, or lend more memory.", SERVER},
@@ -60,6 +65,13 @@ static const struct refusal refusals[LAST_REFUSAL] = {
      "the access.", "module M with 0x31080040 at word 0",
      "See that the data size is the one that the compiler was told. Compiler: the guard words are right; make the mask m and the access's offset "
      "multiples of its width, the offset not negative, and m + offset + width at most the data size.", COMPILER},
+    {"There is no base for an area of the size: at every multiple of the size it would overlap an area that is out.", "16, after 65,536 areas of 16",
+     "Take back areas that are no longer needed, or ask for a smaller one. cc100 areas RECORD show says how much is free, and the largest area that "
+     "there is a base for.", KEEPER},
+    {"The keeper's record has another length than 65,536 bytes, or shows areas out that overlap, leave the memory or break the size or base rule; or "
+     "the area handed back, by base and size, is not one that is out.", "an area handed back twice",
+     "Hand an area back once, with the base and the size that it was given with. Where the record is wrong, cc100 areas RECORD show names the byte; "
+     "docs/REFUSALS.md says how to mend it.", KEEPER},
 };
 
 static const struct exit_name exits[LAST_EXIT - FIRST_EXIT + 1] = {
