@@ -14,7 +14,7 @@
 # make bench: speed beside plain C and, where it is installed, Unicorn. make bench BEFORE=FILE: beside another archive too, whose calls have the
 # same arguments and answers.
 SHELL = /bin/bash
-VERSION = 1.6
+VERSION = 1.7
 PREFIX = /usr/local
 CC = cc
 CFLAGS = -O2 -Wall -Wextra -Werror -Iinclude -Ibench

@@ -14,6 +14,17 @@
 #define LARGEST 65536u
 #define NONE UINT32_MAX /* no index */
 
+/* By a number that is none of the standard streams': where one of these is closed, nothing that is printed may go into the record. */
+static int open_apart(const char *path, int flags)
+{
+    int file = open(path, flags, 0666);
+    if (file < 0 || file > STDERR_FILENO)
+        return file;
+    int apart = fcntl(file, F_DUPFD, STDERR_FILENO + 1);
+    close(file);
+    return apart;
+}
+
 static bool write_all(int file, const uint8_t *bytes, size_t length)
 {
     for (size_t done = 0; done < length;) {
@@ -29,7 +40,7 @@ static bool write_all(int file, const uint8_t *bytes, size_t length)
 bool make_record(const char *path)
 {
     static const uint8_t zeros[CC100_RECORD_LENGTH];
-    int file = open(path, O_WRONLY | O_CREAT | O_EXCL, 0666);
+    int file = open_apart(path, O_WRONLY | O_CREAT | O_EXCL);
     if (file < 0 && errno == EEXIST) {
         complain("%s is there already; it is left as it is", path);
         return false;
@@ -73,7 +84,7 @@ static void say_not_opened(const char *path)
 bool open_record(struct record *r, const char *path, bool to_change)
 {
     r->path = path;
-    r->file = open(path, to_change ? O_RDWR : O_RDONLY);
+    r->file = open_apart(path, to_change ? O_RDWR : O_RDONLY);
     if (r->file < 0) {
         say_not_opened(path);
         return false;

@@ -784,7 +784,7 @@ def test_object_bytes():
 
 def test_numbers():
     """The text of every number has the sentences of its object, in lines of at most 80 columns."""
-    for number in range(1, 23):
+    for number in range(1, 25):
         said = told(number)
         expect("explain --number %d" % number, DONE, "%d is a refusal\n\n" % number + wrapped(said["meaning"])
                + "\nFor example: %s\n\n" % said["example"] + wrapped("Whom to ask: " + said["ask"]) + "\n"
@@ -798,15 +798,17 @@ def test_number_texts():
     expect("explain --number 0x2", DONE, """\
 2 is a refusal
 
-The code size is not a power of two from 16 to 65,536.
+The code size, or an area's size, is not a power of two from 16 to 65,536.
 
 For example: 24
 
-Whom to ask: First whoever sent the file: it may have been cut off or added to
-on its way. Where it is whole, whoever set up the server.
+Whom to ask: Of a module, first whoever sent the file: it may have been cut off
+or added to on its way. Where it is whole, whoever set up the server. Of an
+area, whoever asked for it or handed it back.
 
 What to do: See that the file is whole. The compiler fills a module up to such a
-size, before its last jump.
+size, before its last jump. Of an area: ask for the next larger of these sizes,
+or hand it back with the size that it was given with.
 """)
     expect("explain --number 50", DONE, """\
 50 is an exit, fetch outside memory
@@ -814,7 +816,7 @@ size, before its last jump.
 Not all of the four bytes from PC on are inside memory; they do not wrap, so PC
 0xFFFFFFFC gives 50.
 """)
-    for number in (0, 23, 39, 53, 2 ** 32 - 1):
+    for number in (0, 25, 39, 53, 2 ** 32 - 1):
         expect(["explain", "--number", str(number)], 2, "",
-               "cc100 explain: %d is no number of a refusal, 1 to 22, or of an exit, 40 to 52\n"
+               "cc100 explain: %d is no number of a refusal, 1 to 24, or of an exit, 40 to 52\n"
                "usage: cc100 explain [OPTION]... FILE | --number N\n'cc100 explain --help' says more\n" % number)

@@ -92,9 +92,11 @@ def test_unreadable():
     os.chmod(path_of("shut"), 0o700)
 
 
-NOT_A_SIZE = "The code size is not a power of two from 16 to 65,536."
-SENDER = "First whoever sent the file: it may have been cut off or added to on its way. Where it is whole, whoever set up the server."
-WHOLE = "See that the file is whole. The compiler fills a module up to such a size, before its last jump."
+NOT_A_SIZE = "The code size, or an area's size, is not a power of two from 16 to 65,536."
+SENDER = "Of a module, first whoever sent the file: it may have been cut off or added to on its way. Where it is whole, whoever set up the server. " \
+    "Of an area, whoever asked for it or handed it back."
+WHOLE = "See that the file is whole. The compiler fills a module up to such a size, before its last jump. Of an area: ask for the next larger of " \
+    "these sizes, or hand it back with the size that it was given with."
 
 
 def refused(name, length):
@@ -321,7 +323,7 @@ def test_closed_errors():
     """What cannot be said is still in the exit status, and nothing of it is on standard output."""
     closed = {"stderr": subprocess.DEVNULL, "preexec_fn": closes(2)}
     for arguments in [filled(reader, name) for reader in READERS for name in ("missing", "samples")] + [
-            [], ["nothing"], ["check"], ["list", "--data-size", "x", "FILE"], ["explain", "--number", "23"]]:
+            [], ["nothing"], ["check"], ["list", "--data-size", "x", "FILE"], ["explain", "--number", "25"]]:
         compare(arguments, Came(NOT_DONE, b"", None), run(arguments, **closed))
     compare("check", Came(REFUSED, b"samples/m.module: accept 8\nsamples/refused.module: refuse 22 0\n", None),
             run("check samples/m.module samples/refused.module", **closed))

@@ -17,7 +17,7 @@ sys.path.insert(0, os.path.dirname(os.path.abspath(__file__)))
 
 import program
 
-SUBJECTS = ["usage", "check", "explaining", "listing", "running", "rows", "steps", "straight", "tables", "files", "terminal",
+SUBJECTS = ["usage", "check", "explaining", "listing", "running", "rows", "steps", "straight", "tables", "areas", "files", "terminal",
             "documents"]
 
 

@@ -13,7 +13,8 @@ Exit status: 0 done or accepted, 1 refused or not complete, 2 not to be done
 HELP = """\
 usage: cc100 COMMAND [OPTION]... [FILE]...
 
-Report modules in CC100-C machine code: checked, explained, listed and run.
+Report modules in CC100-C machine code: checked, explained, listed and run, and
+given areas of memory.
 
 commands:
   check                 says in a line whether a module is accepted
@@ -21,18 +22,20 @@ commands:
   list                  prints a module's instructions
   run                   checks a module and runs it to the end of its report
   tables                prints the 72 instructions by the fields of a word
+  areas                 gives areas of memory to modules, and takes them back
 
 options:
   --help                says this; 'cc100 COMMAND --help' says more of a command
   --version             says the version
 
 FILE is a module: 16-byte bundles of four words, without a header. - stands for
-standard input.
+standard input. Of areas it is the record.
 
 """ + EXIT_STATUS
 
 # What follows the name of a subcommand in its usage.
-ARGUMENTS = {"check": " FILE...", "explain": " FILE | --number N", "list": " FILE", "run": " FILE", "tables": ""}
+ARGUMENTS = {"check": " FILE...", "explain": " FILE | --number N", "list": " FILE", "run": " FILE", "tables": "",
+             "areas": " RECORD new|give SIZE|back BASE SIZE|show"}
 
 # What the help of a subcommand says before its options.
 DESCRIPTIONS = {
@@ -72,15 +75,29 @@ where that says SPECIAL, REGIMM or COP0, by another field in the table of that
 name. A place's number is the bits of its row and then those of its column; a -
 is a place that no instruction has.
 """,
+    "areas": """\
+Keeps areas of 1,048,576 bytes of memory by a record, a file of 65,536 bytes.
+
+  new             writes an empty record where no file is
+  give SIZE       gives an area: a power of two from 16 to 65,536 bytes, at the
+                  lowest base that is free; prints its base and its size
+  back BASE SIZE  takes an area back, and prints the same
+  show            prints a picture, a line for each 65,536 bytes and a place for
+                  each 1,024: . free, # out, + partly out; and the totals
+
+What is given is on the disk before it is printed, and no two processes are
+given the same. 'cc100 explain --number N' says what the number of a refusal means.
+""",
 }
 
 # The options in the order of the help: the line of each, and the subcommands that take it.
-ALL = ("check", "explain", "list", "run", "tables")
-MODULE = ALL[:-1]  # those that take a module
+ALL = ("check", "explain", "list", "run", "tables", "areas")
+MODULE = ALL[:4]  # those that take a module
 OPTIONS = [
     ("help", "  --help                says this\n", ALL),
-    ("json", "  --json                prints one JSON object a line\n", ("check", "explain", "run", "tables")),
+    ("json", "  --json                prints one JSON object a line\n", ("check", "explain", "run", "tables", "areas")),
     ("straight", "  --straight            takes only straight-through modules, known to finish\n", ("check", "explain", "run")),
+    ("list", "  --list                for show: lists the areas that are out too\n", ("areas",)),
     ("number", "  --number N            explains a number alone, of a refusal or an exit\n", ("explain",)),
     ("rows", "  --rows FILE           a line of quantity, cost and price for each row\n", ("run",)),
     ("figures", "  --figures FILE        whole numbers that the module can ask for\n", ("run",)),
@@ -92,7 +109,7 @@ OPTIONS = [
     ("data-base", "  --data-base N         address of the data area (0x20000)\n", MODULE),
     ("data-size", "  --data-size N         bytes of the data area (64)\n", MODULE),
 ]
-FLAGS = ("help", "json", "straight", "steps")
+FLAGS = ("help", "json", "straight", "list", "steps")
 FILE_NAMES = ("rows", "figures")
 LARGEST = {"memory-length": 2**64 - 1, "budget": 2**64 - 1}  # of all other numbers it is 2^32 - 1
 
@@ -111,7 +128,8 @@ def largest(option):
 
 def help_of(command):
     lines = "".join(line for _, line, commands in OPTIONS if command in commands)
-    numbers = "Numbers are decimal or hexadecimal (4096 or 0x1000). - stands for standard input.\n\n" if command in MODULE else ""
+    numbers = "" if command == "tables" else "Numbers are decimal or hexadecimal (4096 or 0x1000)%s.\n\n" % (
+        ". - stands for standard input" if command in MODULE else "")
     return "usage: cc100 %s [OPTION]...%s\n\n%s\noptions:\n%s\n%s%s" % (
         command, ARGUMENTS[command], DESCRIPTIONS[command], lines, numbers, EXIT_STATUS)
 
@@ -197,7 +215,7 @@ def test_abbreviated_options():
     expect(["check", "--data-s", "3", M], REFUSED, "refuse 3 -\n")
     expect(["check", "--s", M], REFUSED, "refuse 20 6\n")  # M jumps back to its first word
     expect(["run", "--st", "--stra", M], NOT_DONE, "", wrong("run", "there is no option '--st'"))  # or --steps
-    expect_wrong(["explain", "--n", "23"], "23 is no number of a refusal, 1 to 22, or of an exit, 40 to 52")
+    expect_wrong(["explain", "--n", "25"], "25 is no number of a refusal, 1 to 24, or of an exit, 40 to 52")
     expect_wrong(["run", "--b", "x", M], not_a_number("budget", "x"))
 
 
@@ -285,7 +303,7 @@ def test_largest_numbers():
     expect(["run", "--budget", "3", M], REFUSED, started + "still running, and its budget is spent; the report is not complete\n"
            "last access: store of 4 bytes at 0x20000, place 0 of the data area\n")
     for number in (2**32 - 1, 2**32 - 12):
-        expect_wrong(["explain", "--number", "%#x" % number], "%d is no number of a refusal, 1 to 22, or of an exit, 40 to 52" % number)
+        expect_wrong(["explain", "--number", "%#x" % number], "%d is no number of a refusal, 1 to 24, or of an exit, 40 to 52" % number)
 
 
 def test_last_of_an_option():
@@ -324,7 +342,7 @@ def test_number_with_a_file():
         expect_wrong(["explain"] + arguments, "'%s' is one file too many" % M)
     expect_wrong(["explain", "--number", "12", "-"], "'-' is one file too many")
     # The count of files comes before the number itself.
-    expect_wrong(["explain", "--number", "23", M], "'%s' is one file too many" % M)
+    expect_wrong(["explain", "--number", "25", M], "'%s' is one file too many" % M)
 
 
 def test_places_of_options():
