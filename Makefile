@@ -5,7 +5,7 @@
 # make install: the header, the library, the programs and the manual pages (PREFIX=/usr/local, DESTDIR=). make uninstall: takes them away.
 # make host-test: the calls from C and the verdict program, tested.
 # make command-test: the command, plain and under the address and undefined-behaviour sanitizers, and its listing beside GNU objdump's.
-# make install-test: an installation, and README's first example compiled with it.
+# make install-test: an installation, and README's first example and samples/areas.c compiled with it.
 # make samples-test: the samples that have a source, assembled anew and compared.
 # make expected-test: the stored outputs of the programs, compared with the second emulator. make expected: writes them anew.
 # make mips-test: QEMU's results, compared with the product's.
@@ -116,7 +116,7 @@ command-test: command $(VERDICT)
 	@python3 tests/objdump/compare.py target/bin/cc100
 
 install-test:
-	@tests/install.sh $(VERSION)
+	@tests/install.sh $(VERSION) $(abspath $(ARCHIVE) $(VERDICT))
 
 samples-test:
 	@mkdir -p target/tests

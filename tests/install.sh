@@ -1,11 +1,11 @@
 #!/usr/bin/env bash
 # Installs into an empty folder and uses what is there as somebody would who has no sources: the programs, the manual pages, and README's
-# first example compiled with pkg-config. Then takes it away again.
+# first example and samples/areas.c compiled with pkg-config. Then takes it away again.
 #
-#     tests/install.sh VERSION
+#     tests/install.sh VERSION ARCHIVE VERDICT
 set -eu
 cd "$(dirname "$0")/.."
-version=$1
+version=$1 archive=$2 verdict=$3
 room=$(mktemp -d)
 trap 'rm -rf "$room"' EXIT
 checks=0
@@ -30,10 +30,12 @@ installed='./bin/cc100
 ./lib/pkgconfig/cc100.pc
 ./share/man/man1/cc100.1
 ./share/man/man3/cc100.3
+./share/man/man3/cc100_allocate.3
 ./share/man/man3/cc100_check.3
 ./share/man/man3/cc100_check_placed.3
 ./share/man/man3/cc100_check_straight.3
 ./share/man/man3/cc100_read.3
+./share/man/man3/cc100_release.3
 ./share/man/man3/cc100_resume.3
 ./share/man/man3/cc100_run.3
 ./share/man/man3/cc100_step.3
@@ -57,8 +59,12 @@ compiled() {
     (cd "$room" && cc -o example example.c $(pkg-config --cflags --libs cc100))
     expect "README's first program" "$(its_output)" "$("$room/example")"
     [ -n "$(its_output)" ] || expect 'the output that README tells' 'some lines' ''
+    # shellcheck disable=SC2046
+    cc -O2 -Wall -Wextra -Werror -o "$room/areas" samples/areas.c $(pkg-config --cflags --libs cc100)
+    expect 'samples/areas.c' "$(cat tests/areas.expected)" "$("$room/areas")"
     if command -v c++ > /dev/null; then
         echo '#include <cc100.h>' > "$room/header.cc"
+        echo 'cc100_allocated first(uint8_t *record) { return cc100_allocate(record, CC100_RECORD_LENGTH, 16); }' >> "$room/header.cc"
         # shellcheck disable=SC2046
         expect 'the header in C++' '' "$(cd "$room" && c++ -Wall -Wextra -Werror -fsyntax-only $(pkg-config --cflags cc100) header.cc 2>&1)"
     fi
@@ -81,7 +87,7 @@ rendered() {
 
 # Into a folder that a package is made from: the paths inside are those without it.
 staged() {
-    make --no-print-directory install PREFIX=/usr DESTDIR="$room/stage" ARCHIVE="$PWD/target/libcc100.a" VERDICT="$PWD/target/bin/verdict" > "$room/log"
+    make --no-print-directory install PREFIX=/usr DESTDIR="$room/stage" ARCHIVE="$archive" VERDICT="$verdict" > "$room/log"
     expect 'what is staged' "$installed" "$(files_below "$room/stage/usr")"
     expect 'the prefix that is told' 'prefix=/usr' "$(head -n 1 "$room/stage/usr/lib/pkgconfig/cc100.pc")"
     make --no-print-directory uninstall PREFIX=/usr DESTDIR="$room/stage"

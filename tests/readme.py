@@ -1,15 +1,17 @@
 #!/usr/bin/env python3
 """Runs README's commands on its samples, with the programs that PATH has, and compares what they print with what README says.
 
-    tests/readme.py         from anywhere; it writes to target/ what README writes there
+    tests/readme.py         from anywhere; they run in a new folder with samples/ and a target/ of its own
 
 A command is an indented block that begins with one of the names below. Where the text after it begins with "prints" or "which prints", the
 next block must be what the last of the commands printed. Blocks of listed words must stand so in the listing of the margin report.
 """
 import pathlib
 import re
+import shutil
 import subprocess
 import sys
+import tempfile
 
 ROOT = pathlib.Path(__file__).resolve().parent.parent
 NAMES = ("cc100", "samples/assemble.py")
@@ -28,29 +30,31 @@ def parts(text):
     return [(kind, "\n".join(body).strip("\n")) for kind, body in blocks]
 
 
-def printed_by(commands):
+def printed_by(commands, folder):
     out = ""
     for command in commands.split("\n"):
-        out = subprocess.run(["bash", "-c", command], cwd=ROOT, capture_output=True, text=True).stdout
+        out = subprocess.run(["bash", "-c", command], cwd=folder, capture_output=True, text=True).stdout
     return out.strip("\n")
 
 
-def listed_wrong(blocks):
+def listed_wrong(blocks, folder):
     """The blocks of listed words that the listing does not have."""
-    listing = printed_by("cc100 list samples/margin.module")
+    listing = printed_by("cc100 list samples/margin.module", folder)
     return [body for kind, body in blocks if kind == "code" and re.match(r" *\d+  0x", body) and body not in listing]
 
 
-def main():
+def compare(folder):
+    shutil.copytree(ROOT / "samples", folder / "samples")
+    (folder / "target").mkdir()
     blocks = parts((ROOT / "README.md").read_text())
     checks = failures = 0
-    for body in listed_wrong(blocks):
+    for body in listed_wrong(blocks, folder):
         failures += 1
         print(f"FAILED README, the listing of samples/margin.module does not have\n{body}")
     for (kind, body), (_, between), (_, told) in zip(blocks, blocks[1:], blocks[2:]):
         if kind != "code" or body.split()[0] not in NAMES:
             continue
-        came = printed_by(body)
+        came = printed_by(body, folder)
         if not between.strip().startswith(("prints", "which prints")):
             continue
         checks += 1
@@ -59,6 +63,11 @@ def main():
             print(f"FAILED README, {body}: it says\n{told}\ncame\n{came}")
     print(f"README's commands: {checks} checks, {failures} failed")
     return failures != 0 or checks < FEWEST
+
+
+def main():
+    with tempfile.TemporaryDirectory() as folder:
+        return compare(pathlib.Path(folder))
 
 
 if __name__ == "__main__":
