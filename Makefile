@@ -32,8 +32,9 @@ PLAIN = bench/plain_read.c bench/plain_step.c bench/plain_check.c bench/plain_ar
 TIMED = bench/timing.c $(PLAIN)
 # The benchmark of runs has one column more where Unicorn is installed (Debian's libunicorn-dev).
 UNICORN = $(shell pkg-config --exists unicorn 2> /dev/null && echo -DUNICORN bench/unicorn.c -lunicorn)
-# Another archive's calls, by names of their own; before release 1.3 there was no check for straight-through modules.
-OTHER = $(if $(BEFORE),-DBEFORE $(if $(shell nm $(BEFORE) | grep -w cc100_check_straight),-DBEFORE_STRAIGHT) target/bench/before.a)
+# Another archive's calls, by names of their own; before release 1.3 there was no check for straight-through modules, and before 1.7 no areas.
+HAS = $(if $(shell nm $(BEFORE) | grep -w cc100_$(1)),$(2))
+OTHER = $(if $(BEFORE),-DBEFORE $(call HAS,check_straight,-DBEFORE_STRAIGHT) $(call HAS,allocate,-DBEFORE_AREAS) target/bench/before.a)
 # The samples that have a source.
 ASSEMBLED = m margin totals forgotten
 EMULATOR = $(wildcard tests/emulator/*.c)
@@ -158,6 +159,8 @@ bench: $(ARCHIVE)
 	@$(CC) $(CFLAGS) -o target/bench/read bench/read.c $(TIMED) $(ARCHIVE) $(OTHER)
 	@$(CC) $(CFLAGS) -o target/bench/run bench/run.c $(TIMED) $(ARCHIVE) $(OTHER) $(UNICORN)
 	@$(CC) $(CFLAGS) -o target/bench/check bench/check.c $(TIMED) $(ARCHIVE) $(OTHER)
+	@$(CC) $(CFLAGS) -o target/bench/areas bench/areas.c $(TIMED) $(ARCHIVE) $(OTHER)
 	@target/bench/read
 	@target/bench/run
 	@target/bench/check
+	@target/bench/areas

@@ -19,4 +19,7 @@ double median(double *seconds, size_t count);
 /* Prints the speed of each, `work` units in its seconds, and the time of the first beside that of the others. Gives `wrong` back. */
 int report(const struct timing *timings, size_t count, double work, const char *unit, int wrong);
 
+/* The same with the time that one of `calls` calls takes, in microseconds. */
+int report_calls(const struct timing *timings, size_t count, double calls, int wrong);
+
 #endif

@@ -1,5 +1,5 @@
-/* The keeper's record as a file: made, opened under a lock, and changed by one byte in place. And why a call refuses it, in words: the numbers are the
-   calls' own. */
+/* The keeper's record as a file: made, opened under a lock, and changed by one byte in place. And why a call refuses it, in words: the numbers
+   are the calls' own. */
 #define _POSIX_C_SOURCE 200809L
 #include "records.h"
 

@@ -1,5 +1,6 @@
-/* A second CC100-C machine, reader, writer, checker and keeper of areas, written from documents 004 and 01 and tickets 1, 2 and 4 to 6 of document 02
-   alone. It shares nothing with the product: neither its Rattle sources nor its C header. It is meant to be read beside the documents, not to be fast.
+/* A second CC100-C machine, reader, writer, checker and keeper of areas, written from documents 004 and 01 and tickets 1, 2 and 4 to 6 of document
+   02 alone. It shares nothing with the product: neither its Rattle sources nor its C header. It is meant to be read beside the documents, not to
+   be fast.
 
    The numbers that it gives are those of documents 01 and 02: 0 for done, 1 to 24 for refusals, 40 to 52 for exits. */
 #ifndef EMULATOR_H

@@ -1,5 +1,4 @@
-/* Areas given and taken back: ticket 6's cases by hand, random records, damaged ones, and lists of calls on one record. After every call the
-   whole record is compared. */
+/* Areas given and taken back: random records, damaged ones, and lists of calls on one record. */
 #include <string.h>
 
 #include "areas.h"
@@ -11,155 +10,12 @@
 #define LISTS 16
 #define LIST_CALLS 300
 #define LEAST 50 /* times that everything counted has to happen */
-#define LONGEST_RECORD (2 * CC100_RECORD_LENGTH)
-#define NUMBERS (CC100_REFUSED_RECORD + 1)
 #define WAYS 14u /* to hand back */
 
-enum { EMULATOR, PRODUCT, PLAIN, BY_EIGHT, KEEPERS };
-
-/* Those that are compared with the emulator. */
-static const struct {
-    const char *allocate_name, *release_name;
-    plain_allocator *allocate;
-    plain_releaser *release;
-} keepers[KEEPERS] = {
-    [PRODUCT] = {"cc100_allocate", "cc100_release", cc100_allocate, cc100_release},
-    [PLAIN] = {"plain_allocate", "plain_release", plain_allocate, plain_release},
-    [BY_EIGHT] = {"plain_allocate_by_eight", "plain_release_by_eight", plain_allocate_by_eight, plain_release_by_eight},
-};
-
-/* What each works on, and what the calls so far should have left. */
-static struct lent records[KEEPERS], wanted;
-
-struct area {
-    uint32_t base, size;
-};
-
 static struct counts {
-    unsigned long given[NUMBERS], taken[NUMBERS], styles[STYLES], ways[WAYS], again;
+    unsigned long styles[STYLES], ways[WAYS], again;
     unsigned long damages[DAMAGES], lengths, size_first, record_first, full, most_out;
 } counts;
-
-static void begin_record(uint32_t length)
-{
-    for (int i = 0; i < KEEPERS; i++)
-        set_length(&records[i], length);
-    set_length(&wanted, length);
-    memset(records[EMULATOR].bytes, 0, length);
-}
-
-/* All work on what the emulator's record has now. */
-static void share_record(void)
-{
-    for (int i = 1; i < KEEPERS; i++)
-        copy_lent(&records[i], &records[EMULATOR]);
-    copy_lent(&wanted, &records[EMULATOR]);
-}
-
-/* The byte that a call may have changed, and no other, in each of the records. */
-static void same_records(const char *call, uint32_t number, uint32_t base, uint8_t byte)
-{
-    now.call = call;
-    if (number == CC100_DONE)
-        wanted.bytes[base / 16] = byte;
-    for (int i = 0; i < KEEPERS; i++)
-        same_lent(i == EMULATOR ? "the emulator's record" : "record", &wanted, &records[i]);
-}
-
-static uint8_t power_of(uint32_t size)
-{
-    uint8_t power = SMALLEST_POWER;
-    while (power < LARGEST_POWER && size != 16 * sixteens(power))
-        power++;
-    return power;
-}
-
-/* Both give the emulator's number. */
-static uint32_t compare_allocate(uint32_t size, uint32_t *base)
-{
-    uint32_t number = em_allocate(records[EMULATOR].bytes, records[EMULATOR].length, size, base);
-    now.word = size;
-    for (int i = 1; i < KEEPERS; i++) {
-        now.call = keepers[i].allocate_name;
-        cc100_allocated came = keepers[i].allocate(records[i].bytes, records[i].length, size);
-        same_number("number", number, came.number);
-        same_number("base", *base, came.base);
-    }
-    same_records("after the allocations", number, *base, power_of(size));
-    counts.given[number]++;
-    return number;
-}
-
-static uint32_t compare_release(struct area a)
-{
-    uint32_t number = em_release(records[EMULATOR].bytes, records[EMULATOR].length, a.base, a.size);
-    now.word = a.size;
-    for (int i = 1; i < KEEPERS; i++) {
-        now.call = keepers[i].release_name;
-        same_number("number", number, keepers[i].release(records[i].bytes, records[i].length, a.base, a.size));
-    }
-    same_records("after the releases", number, a.base, 0);
-    counts.taken[number]++;
-    return number;
-}
-
-/* The ticket's own answers, worked out from it by hand: what stands in a record, and a call. A base of NOWHERE asks for an area. */
-static const struct by_hand {
-    const char *name;
-    uint32_t bytes[3][2]; /* index and byte */
-    uint32_t length;
-    struct area call;
-    uint32_t number, base;
-} cases[] = {
-    {"16 of all", {{0}}, 65536, {NOWHERE, 16}, 0, 0},
-    {"65,536 of all", {{0}}, 65536, {NOWHERE, 65536}, 0, 0},
-    {"16 behind 16", {{0, 4}}, 65536, {NOWHERE, 16}, 0, 0x10},
-    {"32 behind 16", {{0, 4}}, 65536, {NOWHERE, 32}, 0, 0x20},
-    {"65,536 behind 16", {{0, 4}}, 65536, {NOWHERE, 65536}, 0, 0x10000},
-    {"16 before 16", {{1, 4}}, 65536, {NOWHERE, 16}, 0, 0},
-    {"32 past a gap of 16", {{0, 5}, {3, 4}}, 65536, {NOWHERE, 32}, 0, 0x40},
-    {"16 in that gap", {{0, 5}, {3, 4}}, 65536, {NOWHERE, 16}, 0, 0x20},
-    {"size 0", {{0}}, 65536, {NOWHERE, 0}, 2, NOWHERE},
-    {"size 8", {{0}}, 65536, {NOWHERE, 8}, 2, NOWHERE},
-    {"size 24", {{0}}, 65536, {NOWHERE, 24}, 2, NOWHERE},
-    {"size 131,072", {{0}}, 65536, {NOWHERE, 131072}, 2, NOWHERE},
-    {"2 before 24 by length", {{0}}, 65535, {NOWHERE, 17}, 2, NOWHERE},
-    {"2 before 24 by k", {{9, 3}}, 65536, {NOWHERE, 17}, 2, NOWHERE},
-    {"no record", {{0}}, 0, {NOWHERE, 16}, 24, NOWHERE},
-    {"a byte too few", {{0}}, 65535, {NOWHERE, 16}, 24, NOWHERE},
-    {"a byte too many", {{0}}, 65537, {NOWHERE, 16}, 24, NOWHERE},
-    {"k 3", {{65535, 3}}, 65536, {NOWHERE, 16}, 24, NOWHERE},
-    {"k 17", {{0, 17}}, 65536, {NOWHERE, 16}, 24, NOWHERE},
-    {"32 at 0x10", {{1, 5}}, 65536, {NOWHERE, 16}, 24, NOWHERE},
-    {"65,536 at the last sixteen", {{65535, 16}}, 65536, {NOWHERE, 16}, 24, NOWHERE},
-    {"16 inside 32", {{0, 5}, {1, 4}}, 65536, {NOWHERE, 16}, 24, NOWHERE},
-    {"16 at the end of 65,536", {{0, 16}, {4095, 4}}, 65536, {NOWHERE, 16}, 24, NOWHERE},
-    {"16 behind 65,536", {{0, 16}, {4096, 4}}, 65536, {NOWHERE, 16}, 0, 0x10010},
-    {"back", {{2, 5}}, 65536, {0x20, 32}, 0, 0},
-    {"back by another size", {{2, 5}}, 65536, {0x20, 16}, 24, 0},
-    {"its second half", {{2, 5}}, 65536, {0x30, 16}, 24, 0},
-    {"a byte on", {{2, 5}}, 65536, {0x21, 32}, 24, 0},
-    {"past the memory", {{2, 5}}, 65536, {0x100020, 32}, 24, 0},
-    {"back by no size", {{2, 5}}, 65536, {0x20, 31}, 2, 0},
-    {"back, of none", {{0}}, 65536, {0, 16}, 24, 0},
-    {"back, of a record with k 2", {{2, 5}, {9, 2}}, 65536, {0x20, 32}, 24, 0},
-};
-
-static void try_by_hand(const struct by_hand *c)
-{
-    uint32_t base = NOWHERE;
-    begin_record(c->length);
-    for (size_t i = 0; i < COUNT(c->bytes); i++)
-        if (c->bytes[i][0] < c->length)
-            records[EMULATOR].bytes[c->bytes[i][0]] |= (uint8_t)c->bytes[i][1];
-    share_record();
-    now.name = c->name;
-    uint32_t number = c->call.base == NOWHERE ? compare_allocate(c->call.size, &base) : compare_release(c->call);
-    now.call = "the emulator's keeper";
-    same_number("number", c->number, number);
-    if (c->call.base == NOWHERE)
-        same_number("base", c->base, base);
-}
 
 static uint32_t right_size(void) { return 16 * sixteens(SMALLEST_POWER + below(POWERS)); }
 
@@ -362,13 +218,13 @@ static void try_list(void)
 static void require_counts(void)
 {
     now.name = "count";
-    at_least("areas given", 10 * LEAST, counts.given[CC100_DONE]);
-    at_least("areas not given by 2", 10 * LEAST, counts.given[CC100_REFUSED_CODE_SIZE]);
-    at_least("areas not given by 23", 10 * LEAST, counts.given[CC100_REFUSED_NO_SPACE]);
-    at_least("areas not given by 24", 10 * LEAST, counts.given[CC100_REFUSED_RECORD]);
-    at_least("areas taken back", 10 * LEAST, counts.taken[CC100_DONE]);
-    at_least("areas not taken back by 2", 10 * LEAST, counts.taken[CC100_REFUSED_CODE_SIZE]);
-    at_least("areas not taken back by 24", 10 * LEAST, counts.taken[CC100_REFUSED_RECORD]);
+    at_least("areas given", 10 * LEAST, given[CC100_DONE]);
+    at_least("areas not given by 2", 10 * LEAST, given[CC100_REFUSED_CODE_SIZE]);
+    at_least("areas not given by 23", 10 * LEAST, given[CC100_REFUSED_NO_SPACE]);
+    at_least("areas not given by 24", 10 * LEAST, given[CC100_REFUSED_RECORD]);
+    at_least("areas taken back", 10 * LEAST, taken[CC100_DONE]);
+    at_least("areas not taken back by 2", 10 * LEAST, taken[CC100_REFUSED_CODE_SIZE]);
+    at_least("areas not taken back by 24", 10 * LEAST, taken[CC100_REFUSED_RECORD]);
     at_least("areas given and taken back at once", LEAST, counts.again);
     at_least("records of another length", 10 * LEAST, counts.lengths);
     at_least("2 before 24", LEAST, counts.size_first);
@@ -392,17 +248,13 @@ static void repeat(uint64_t times, void (*part)(void))
 void test_areas(void)
 {
     begin_part("areas");
-    for (int i = 0; i < KEEPERS; i++)
-        records[i] = room_for(LONGEST_RECORD);
-    wanted = room_for(LONGEST_RECORD);
-    for (size_t i = 0; i < COUNT(cases); i++)
-        try_by_hand(&cases[i]);
+    try_areas_by_hand();
     repeat(RECORDS, try_record);
     repeat(DAMAGED, try_damaged);
     repeat(OTHER_LENGTHS, try_length);
     repeat(LISTS, try_list);
     require_counts();
     end_part("%lu areas given, not by 2 %lu, by 23 %lu, by 24 %lu; %lu taken back, not by 2 %lu, by 24 %lu; of %d kinds of damage:%s, of another "
-             "length %lu; up to %lu out in a list", counts.given[0], counts.given[2], counts.given[23], counts.given[24], counts.taken[0],
-             counts.taken[2], counts.taken[24], (int)DAMAGES, listed(counts.damages, 0, DAMAGES - 1), counts.lengths, counts.most_out);
+             "length %lu; up to %lu out in a list", given[0], given[2], given[23], given[24], taken[0],
+             taken[2], taken[24], (int)DAMAGES, listed(counts.damages, 0, DAMAGES - 1), counts.lengths, counts.most_out);
 }
