@@ -387,31 +387,31 @@ def test_files():
     equal("areas samples/m.module give 16", "whether the module is as it was", True, content("samples/m.module") == before)
 
 
-def as_reader(**modes):
+def as_reader(modes):
     """Puts records with these modes into a folder, and gives what runs a copy of the program so that root too may only do what all may."""
-    programs["copy"] = os.fsdecode(path_of("copy"))
-    shutil.copyfile(programs["cc100"], programs["copy"])
+    programs["copied"] = os.fsdecode(path_of("copied"))
+    shutil.copyfile(programs["cc100"], programs["copied"])
     os.chmod(path_of("."), 0o755)
-    os.chmod(path_of("copy"), 0o755)
+    os.chmod(path_of("copied"), 0o755)
     for name, mode in modes.items():
         write(name, changed((0, 4)))
         os.chmod(path_of(name), mode)
-    return {"program": "copy", **as_other_user()}
+    return {"program": "copied", **as_other_user()}
 
 
 def test_permissions():
     """A record that may only be read can be shown, and one that may not be read at all cannot be used."""
-    other = as_reader(readable=0o444, shut=0o000)
+    other = as_reader({"readable.record": 0o444, "shut.record": 0o000})
     try:
         can_be_tried = run("--version", **other).status == DONE
     except (OSError, subprocess.SubprocessError):
         can_be_tried = False
     if can_be_tried:
-        equal("areas readable show", "status", DONE, run("areas readable show", **other).status)
-        expect("areas readable give 16", NOT_DONE, "", "cc100: cannot open readable: Permission denied\n", **other)
-        expect("areas readable back 0 16", NOT_DONE, "", "cc100: cannot open readable: Permission denied\n", **other)
+        equal("areas readable.record show", "status", DONE, run("areas readable.record show", **other).status)
+        expect("areas readable.record give 16", NOT_DONE, "", "cc100: cannot open readable.record: Permission denied\n", **other)
+        expect("areas readable.record back 0 16", NOT_DONE, "", "cc100: cannot open readable.record: Permission denied\n", **other)
         for action in USES:
-            expect("areas shut " + action, NOT_DONE, "", "cc100: cannot open shut: Permission denied\n", **other)
+            expect("areas shut.record " + action, NOT_DONE, "", "cc100: cannot open shut.record: Permission denied\n", **other)
         expect("areas new.record new", NOT_DONE, "", "cc100: cannot write new.record: Permission denied\n", **other)
     else:
         skip("records that may not be read or written: user %d cannot run the program here" % OTHER_USER)
