@@ -1,5 +1,6 @@
 pub mod Multiples
 pub mod Seen
+pub mod Clear
 pub mod Sizes
 pub mod Calls
 pub mod Kept

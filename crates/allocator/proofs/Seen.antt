@@ -15,7 +15,7 @@ use Rattle.word.proofs.Choice.{by_test}
 use Rattle.allocator.specs.Not.{Not}
 use Rattle.allocator.specs.declared.pass.Pass.{Pass}
 use Rattle.allocator.specs.Record.{Area, area, size_of, end_of, Apart, IsExponent, IsSize, Out, Sound, Free, kept}
-use Rattle.allocator.specs.Pass.{rounded, taken, looked, Before, Seen, Passed}
+use Rattle.allocator.specs.Pass.{rounded, taken, looked, Before, Seen, Known, Passed}
 use Rattle.allocator.proofs.Multiples.{further, rounded_multiple, rounded_least, rounded_most, kept_multiple, power_some}
 
 -- ---- nothing begins between two addresses
@@ -183,11 +183,6 @@ module _ (p : Pass) (x j : ℕ) where
       go false false true true u v w z = f (inr (inr (inr (ltb-true x p.end z))))
       go false false true false u v w z =
           g (omega (arith, ltb-false j 4 u)) (omega (arith, ltb-false 16 j v)) (eqb-true (x % 2 ^ j) 0 w) (omega (arith, ltb-false x p.end z))
-
--- what is known with the next area, if there is one in a sound record
-abbrev pub Known : List ℕ → ℕ → ℕ → Option Pass → Type 0
-Known r k x None = Not (Sound r)
-Known r k x (Some q) = Seen r k x q
 
 module _ (r : List ℕ) (k n i j : ℕ) (p : Pass) (w : IsSize k n) (l : length r ≡ 65536) (h : i < 65536) where
   known_area : Seen r k (16 * i) p → slice_index r i ≡ j → Not (j ≡ 0) → Known r k (16 * (i + 1)) (taken n p (16 * i) j)

@@ -37,6 +37,11 @@ pub record Seen (r : List ℕ) (k x : ℕ) (p : Pass) : Type 0 where
   pub end_most : p.end ≤ kept
   pub base_most : p.base ≤ kept
 
+-- what is known with the next bytes
+abbrev pub Known : List ℕ → ℕ → ℕ → Option Pass → Type 0
+Known r k x None = Not (Sound r)
+Known r k x (Some p) = Seen r k x p
+
 -- what the whole pass says of a record: that it is not sound, or the lowest base that is free, if that area is inside
 abbrev pub Passed : List ℕ → ℕ → Option Pass → Type 0
 Passed r k None = Not (Sound r)

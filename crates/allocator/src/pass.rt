@@ -1,5 +1,5 @@
 // One pass over a record: whether it is sound, and the lowest base that is free.
-ghost use Rattle.std.specs.Prelude.{◌≡◌, ◌+◌, ◌*◌, ◌^◌, ◌≤◌, ◌<◌, true, ℕ};
+ghost use Rattle.std.specs.Prelude.{◌≡◌, ◌+◌, ◌*◌, ◌^◌, ◌≤◌, ◌<◌, true, ℕ, length, slice_index};
 ghost use Rattle.std.specs.Int.{is_power_of_two};
 ghost use Rattle.std.specs.Option.{ForSome};
 ghost use Rattle.allocator.specs.Pass as Spec;
@@ -76,6 +76,30 @@ impl Pass {
             self.take(at, byte, size)
         }
     }
+
+    // The eight bytes from `from` on are seen next.
+    #[tactic(auto, using(crate::proofs::Multiples::size_tested, crate::proofs::Multiples::size_most))]
+    fn eight(self, bytes: &[u8], from: usize, size: u32) -> Option<Pass>
+        requires length { length bytes.now ≡ 65536 }
+        requires within { from + 8 ≤ 65536 }
+        requires size { Size size }
+        requires seen { (k : ℕ) → IsSize k size → Spec.Seen bytes.now k (16 * from) self }
+        ensures { (k : ℕ) → IsSize k size → Spec.Known bytes.now k (16 * (from + 8)) result }
+    {
+        let mut seen = self;
+        for at in from..from + 8 {
+            seen = seen.next(16 * at as u32, bytes[at], size)?;
+        }
+        Some(seen)
+    }
+}
+
+// No area begins in the eight bytes from `from` on. Most bytes of a record are 0, and eight are compared at once.
+fn is_clear(bytes: &[u8], from: usize) -> bool
+    requires { from + 8 ≤ length bytes.now }
+    ensures { result ≡ true → ((i : ℕ) → from ≤ i → i < from + 8 → slice_index bytes.now i ≡ 0) }
+{
+    bytes[from..from + 8] == [0; 8]
 }
 
 // What a record shows out, by its bytes. None where it is not sound.
@@ -89,8 +113,10 @@ pub fn scan(bytes: &[u8], size: u32) -> Option<Pass>
         return None;
     }
     let mut seen = Pass { end: 0, base: 0 };
-    for i in 0..bytes.len() {
-        seen = seen.next(16 * i as u32, bytes[i], size)?;
+    for i in 0..65536 / 8 {
+        if !is_clear(bytes, 8 * i) {
+            seen = seen.eight(bytes, 8 * i, size)?;
+        }
     }
     Some(seen)
 }
