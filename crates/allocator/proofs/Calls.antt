@@ -6,7 +6,6 @@ use native.Mathlib.Omega.{arith}
 use Rattle.std.specs.Prelude.{Some, None, slice_index, slice_set}
 use Rattle.refusal.specs.declared.Refusal.{Refusal}
 use Rattle.refusal.specs.Refusal.{number_of}
-use Rattle.allocator.specs.Not.{Not}
 use Rattle.allocator.specs.declared.pass.Pass.{Pass}
 use Rattle.allocator.specs.Record.{IsSize, Size, kept}
 use Rattle.allocator.specs.Pass.{Passed}
@@ -14,7 +13,7 @@ use Rattle.allocator.specs.Calls as S
 use Rattle.allocator.specs.Calls.{no_base, Allocates, Releases}
 
 module _ (r : List ℕ) (n : ℕ) where
-  pub refuse_size : (e : Refusal) → (number_of e ≡ 2) × Not (Size n) → Allocates r n (number_of e) no_base r
+  pub refuse_size : (e : Refusal) → (number_of e ≡ 2) × ¬ (Size n) → Allocates r n (number_of e) no_base r
   refuse_size e h = subst (λ (m : ℕ). Allocates r n m no_base r) (sym h.0) (S.no_size h.1)
 
   module _ (k : ℕ) (s : IsSize k n) where
@@ -28,7 +27,7 @@ module _ (r : List ℕ) (n : ℕ) where
     give p h l = S.given k p.base s h.0 (h.1.0 (omega (arith, l, s.1)))
 
 module _ (r : List ℕ) (b n : ℕ) where
-  pub keep_size : (e : Refusal) → (number_of e ≡ 2) × Not (Size n) → Releases r b n (number_of e) r
+  pub keep_size : (e : Refusal) → (number_of e ≡ 2) × ¬ (Size n) → Releases r b n (number_of e) r
   keep_size e h = subst (λ (m : ℕ). Releases r b n m r) (sym h.0) (S.no_size h.1)
 
   module _ (k : ℕ) (s : IsSize k n) where
@@ -36,13 +35,13 @@ module _ (r : List ℕ) (b n : ℕ) where
     keep_unsound h = S.unsound (k, s) h
 
     module _ (p : Pass) (h : Passed r k (Some p)) where
-      pub keep_odd : Not (b % 16 ≡ 0) → Releases r b n 24 r
+      pub keep_odd : ¬ (b % 16 ≡ 0) → Releases r b n 24 r
       keep_odd q = S.not_out k s h.0 (λ o. q o.0)
 
       pub keep_past : kept ≤ b → Releases r b n 24 r
       keep_past q = S.not_out k s h.0 (λ o. omega (arith, q, o.1.0, h.0.length_is))
 
-      pub keep_other : Not (slice_index r (b / 16) ≡ k) → Releases r b n 24 r
+      pub keep_other : ¬ (slice_index r (b / 16) ≡ k) → Releases r b n 24 r
       keep_other q = S.not_out k s h.0 (λ o. q o.1.1.0)
 
       pub take_back : b % 16 ≡ 0 → b < kept → slice_index r (b / 16) ≡ k → Releases r b n 0 (slice_set r (b / 16) 0)

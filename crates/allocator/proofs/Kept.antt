@@ -12,15 +12,14 @@ use lib.ListN.{length}
 use Rattle.std.proofs.lemmas.List.{get_or-set_same, get_or-set_other, length-set}
 use Rattle.std.specs.Prelude.{slice_index, slice_set}
 use Rattle.layout.proofs.Sizes.{divides}
-use Rattle.allocator.specs.Not.{Not}
 use Rattle.allocator.specs.Record.{Area, area, Apart, IsExponent, Out, Sound, Free}
 use Rattle.allocator.specs.Calls as S
 use Rattle.allocator.specs.Calls.{Allocates, Releases}
 
-either : (m n : ℕ) → (m ≡ n) ⊎ Not (m ≡ n)
+pub either : (m n : ℕ) → (m ≡ n) ⊎ ¬ (m ≡ n)
 either m n = go (eqb m n) refl
   where
-    go : (b : Bool) → eqb m n ≡ b → (m ≡ n) ⊎ Not (m ≡ n)
+    go : (b : Bool) → eqb m n ≡ b → (m ≡ n) ⊎ ¬ (m ≡ n)
     go true e = inl (eqb-true m n e)
     go false e = inr (eqb-false m n e)
 
@@ -33,11 +32,11 @@ module _ (r : List ℕ) (b v : ℕ) (u : b % 16 ≡ 0) (l : b / 16 < length r) w
   there : slice_index after (b / 16) ≡ v
   there = get_or-set_same r (b / 16) v 0 l
 
-  elsewhere : (j : ℕ) → Not (j ≡ b / 16) → slice_index after j ≡ slice_index r j
+  elsewhere : (j : ℕ) → ¬ (j ≡ b / 16) → slice_index after j ≡ slice_index r j
   elsewhere j n = get_or-set_other r (b / 16) j v 0 n
 
   -- an area out then is this one, or was out before
-  pub was : (a : Area) → Out after a → ((a.base ≡ b) × ((a.k ≡ v) × (0 < v))) ⊎ (Out r a × Not (a.base ≡ b))
+  pub was : (a : Area) → Out after a → ((a.base ≡ b) × ((a.k ≡ v) × (0 < v))) ⊎ (Out r a × ¬ (a.base ≡ b))
   was a o =
       let m : a.base / 16 < length r = subst (λ (n : ℕ). a.base / 16 < n) (length-set r (b / 16) v) o.1.0 in
       ⊎_elim
@@ -46,7 +45,7 @@ module _ (r : List ℕ) (b v : ℕ) (u : b % 16 ≡ 0) (l : b / 16 < length r) w
       (either a.base b)
 
   -- and what was out, but for that one, is
-  pub stays : (a : Area) → Out r a → Not (a.base ≡ b) → Out after a
+  pub stays : (a : Area) → Out r a → ¬ (a.base ≡ b) → Out after a
   stays a o n =
       let m : a.base / 16 < length after = subst (λ (x : ℕ). a.base / 16 < x) (sym (length-set r (b / 16) v)) o.1.0 in
       (o.0, (m, (elsewhere (a.base / 16) (λ e. n (omega (arith, e, u, o.0))) ∙ o.1.1.0, o.1.1.1)))
@@ -73,7 +72,7 @@ module _ (r : List ℕ) (k b : ℕ) (w : IsExponent k) (z : Sound r) (f : Free r
             (split x o);
       }
     where
-      split : (a : Area) → Out (slice_set r (b / 16) k) a → ((a.base ≡ b) × ((a.k ≡ k) × (0 < k))) ⊎ (Out r a × Not (a.base ≡ b))
+      split : (a : Area) → Out (slice_set r (b / 16) k) a → ((a.base ≡ b) × ((a.k ≡ k) × (0 < k))) ⊎ (Out r a × ¬ (a.base ≡ b))
       split = was r b k odd at
 
       swapped : (x y : Area) → Apart x y → Apart y x

@@ -4,4 +4,6 @@ pub mod Clear
 pub mod Sizes
 pub mod Calls
 pub mod Kept
+pub mod Told
+pub mod Back
 pub mod Lists

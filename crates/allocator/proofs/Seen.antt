@@ -12,7 +12,6 @@ use lib.ListN.{length}
 use borrow.Author.Tests.{ltb-true, ltb-false, eqb-true, eqb-false}
 use Rattle.std.specs.Prelude.{Option, Some, None, slice_index}
 use Rattle.word.proofs.Choice.{by_test}
-use Rattle.allocator.specs.Not.{Not}
 use Rattle.allocator.specs.declared.pass.Pass.{Pass}
 use Rattle.allocator.specs.Record.{Area, area, size_of, end_of, Apart, IsExponent, IsSize, Out, Sound, Free, kept}
 use Rattle.allocator.specs.Pass.{rounded, taken, looked, Before, Seen, Known, Passed}
@@ -93,14 +92,14 @@ module _ (r : List ℕ) (k x j : ℕ) (p : Pass) (u : x % 16 ≡ 0) (l : x / 16 
       kept_free : (a : Area) → Before r (x + 16) a → Apart (area q.base k) a
       kept_free = both (λ a. Apart (area q.base k) a) (λ a b. rw e (s.free a b)) (λ a f g. inl (rw (e, f) h))
 
-      kept_lower : (b : ℕ) → b % 2 ^ k ≡ 0 → b < q.base → (a : Area) × (Before r (x + 16) a × Not (Apart (area b k) a))
+      kept_lower : (b : ℕ) → b % 2 ^ k ≡ 0 → b < q.base → (a : Area) × (Before r (x + 16) a × ¬ (Apart (area b k) a))
       kept_lower b m l = let t = s.lower b m (omega (arith, l, e)) in (t.0, (weak t.1.0, t.1.1))
 
     module _ (h : x < p.base + 2 ^ k) (e : q.base ≡ rounded (2 ^ k) (x + 2 ^ j)) where
       moved_free : (a : Area) → Before r (x + 16) a → Apart (area q.base k) a
       moved_free a b = inr (omega (arith, ends a b, t.end_is, e, rounded_least (2 ^ k) (x + 2 ^ j) (power_some k)))
 
-      moved_lower : (b : ℕ) → b % 2 ^ k ≡ 0 → b < q.base → (a : Area) × (Before r (x + 16) a × Not (Apart (area b k) a))
+      moved_lower : (b : ℕ) → b % 2 ^ k ≡ 0 → b < q.base → (a : Area) × (Before r (x + 16) a × ¬ (Apart (area b k) a))
       moved_lower b m l =
           elim (dec_lt b p.base) [
             | yes g ↦ (let t = s.lower b m g in (t.0, (weak t.1.0, t.1.1)))
@@ -124,7 +123,7 @@ module _ (r : List ℕ) (k x j : ℕ) (p : Pass) (u : x % 16 ≡ 0) (l : x / 16 
     seen_next = go (ltb x (p.base + 2 ^ k)) refl
       where
         with_base : q.base % 2 ^ k ≡ 0 → ((a : Area) → Before r (x + 16) a → Apart (area q.base k) a)
-            → ((b : ℕ) → b % 2 ^ k ≡ 0 → b < q.base → (a : Area) × (Before r (x + 16) a × Not (Apart (area b k) a)))
+            → ((b : ℕ) → b % 2 ^ k ≡ 0 → b < q.base → (a : Area) × (Before r (x + 16) a × ¬ (Apart (area b k) a)))
             → q.base ≤ kept → Seen r k (x + 16) q
         with_base m f l n =
             record {
@@ -152,7 +151,7 @@ module _ (r : List ℕ) (k x j : ℕ) (p : Pass) (u : x % 16 ≡ 0) (l : x / 16 
 
   -- it is not, where no sound record has it there
   module _ (s : Seen r k x p) where
-    pub unsound_next : (j < 4) ⊎ ((16 < j) ⊎ (Not (x % 2 ^ j ≡ 0) ⊎ (x < p.end))) → Not (Sound r)
+    pub unsound_next : (j < 4) ⊎ ((16 < j) ⊎ (¬ (x % 2 ^ j ≡ 0) ⊎ (x < p.end))) → ¬ (Sound r)
     unsound_next c z =
         ⊎_elim (λ h. omega (arith, h, (z.sizes This out).0))
         (⊎_elim (λ h. omega (arith, h, (z.sizes This out).1))
@@ -167,7 +166,7 @@ module _ (r : List ℕ) (k x j : ℕ) (p : Pass) (u : x % 16 ≡ 0) (l : x / 16 
 
 module _ (p : Pass) (x j : ℕ) where
   abbrev pub Fault : Type 0
-  Fault = (j < 4) ⊎ ((16 < j) ⊎ (Not (x % 2 ^ j ≡ 0) ⊎ (x < p.end)))
+  Fault = (j < 4) ⊎ ((16 < j) ⊎ (¬ (x % 2 ^ j ≡ 0) ⊎ (x < p.end)))
 
   -- the four tests, and what they say
   pub by_tests : {A : Type 0} (bad good : A) (P : A → Type 0)
@@ -185,7 +184,7 @@ module _ (p : Pass) (x j : ℕ) where
           g (omega (arith, ltb-false j 4 u)) (omega (arith, ltb-false 16 j v)) (eqb-true (x % 2 ^ j) 0 w) (omega (arith, ltb-false x p.end z))
 
 module _ (r : List ℕ) (k n i j : ℕ) (p : Pass) (w : IsSize k n) (l : length r ≡ 65536) (h : i < 65536) where
-  known_area : Seen r k (16 * i) p → slice_index r i ≡ j → Not (j ≡ 0) → Known r k (16 * (i + 1)) (taken n p (16 * i) j)
+  known_area : Seen r k (16 * i) p → slice_index r i ≡ j → ¬ (j ≡ 0) → Known r k (16 * (i + 1)) (taken n p (16 * i) j)
   unfolding taken
   known_area s b z =
       let x = 16 * i in

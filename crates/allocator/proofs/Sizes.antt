@@ -10,7 +10,6 @@ use lib.Count.{count_trailing_zeros}
 use Rattle.std.specs.Int.{is_power_of_two}
 use Rattle.layout.specs.Layout.{is_code_size}
 use Rattle.layout.proofs.Sizes.{exponent_of, power_holds, code_sizes}
-use Rattle.allocator.specs.Not.{Not}
 use Rattle.allocator.specs.Record.{IsSize, Size}
 
 module _ (n : ℕ) where
@@ -23,7 +22,7 @@ module _ (n : ℕ) where
       let x = exponent_of 4 13 n (sym (code_sizes n) ∙ h) in
       (x.exponent, ((x.least, omega (arith, x.most)), x.power))
 
-  pub unsized : is_size ≡ false → Not (Size n)
+  pub unsized : is_size ≡ false → ¬ (Size n)
   unfolding is_code_size
   unsized h s =
       false≢true (sym h ∙ code_sizes n
@@ -43,6 +42,10 @@ count_power (suc k) (suc m) h =
 counted : (n k : ℕ) → IsSize k n → count_trailing_zeros 32 n ≡ k
 counted n k s = ap (λ (m : ℕ). count_trailing_zeros 32 m) s.1 ∙ count_power k 32 (omega (arith, s.0.1))
 
+-- a size has one k
+pub one_exponent : (n j k : ℕ) → IsSize j n → IsSize k n → j ≡ k
+one_exponent n j k v w = sym (counted n j v) ∙ counted n k w
+
 module _ (n : ℕ) {t : Bool} (e : t ≡ is_size n) where
   -- of what is a size
   module _ (h : not t ≡ false) where
@@ -54,5 +57,5 @@ module _ (n : ℕ) {t : Bool} (e : t ≡ is_size n) where
     pub exponent_byte : count_trailing_zeros 32 n < 256
     exponent_byte = omega (arith, exponent.0.1)
 
-  pub no_size : not t ≡ true → Not (Size n)
+  pub no_size : not t ≡ true → ¬ (Size n)
   no_size h = unsized n (sym e ∙ not-true t h)

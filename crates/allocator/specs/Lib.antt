@@ -1,4 +1,3 @@
-pub mod Not
 pub mod Record
 pub mod Calls
 pub mod Pass

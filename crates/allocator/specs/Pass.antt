@@ -1,7 +1,6 @@
 -- One pass over a record, for areas of 2^k bytes: what the code keeps of the areas that begin before a place. The calls (specs/Calls) do not rest on
 -- this; `seen_*` of proofs/Seen tie the two together.
 use Rattle.std.specs.Prelude.{ℕ, ◌+◌, ◌-◌, ◌%◌, ◌^◌, ◌≤◌, ◌<◌, ◌≡◌, ◌⊎◌, cond, not, ◌||◌, eqb, ltb, List, Option, Some, None}
-use Rattle.allocator.specs.Not.{Not}
 use Rattle.allocator.specs.declared.pass.Pass.{Pass}
 use Rattle.allocator.specs.Record.{Area, area, size_of, end_of, Apart, IsExponent, Out, Sound, Free, Lowest, kept}
 
@@ -33,17 +32,17 @@ pub record Seen (r : List ℕ) (k x : ℕ) (p : Pass) : Type 0 where
   pub attained : (p.end ≡ 0) ⊎ ((a : Area) × (Before r x a × (end_of a ≡ p.end)))
   pub multiple : p.base % 2 ^ k ≡ 0
   pub free : (a : Area) → Before r x a → Apart (area p.base k) a
-  pub lower : (b : ℕ) → b % 2 ^ k ≡ 0 → b < p.base → (a : Area) × (Before r x a × Not (Apart (area b k) a))
+  pub lower : (b : ℕ) → b % 2 ^ k ≡ 0 → b < p.base → (a : Area) × (Before r x a × ¬ (Apart (area b k) a))
   pub end_most : p.end ≤ kept
   pub base_most : p.base ≤ kept
 
 -- what is known with the next bytes
 abbrev pub Known : List ℕ → ℕ → ℕ → Option Pass → Type 0
-Known r k x None = Not (Sound r)
+Known r k x None = ¬ (Sound r)
 Known r k x (Some p) = Seen r k x p
 
 -- what the whole pass says of a record: that it is not sound, or the lowest base that is free, if that area is inside
 abbrev pub Passed : List ℕ → ℕ → Option Pass → Type 0
-Passed r k None = Not (Sound r)
+Passed r k None = ¬ (Sound r)
 Passed r k (Some p) =
-    Sound r × ((end_of (area p.base k) ≤ kept → Lowest r (area p.base k)) × (kept < end_of (area p.base k) → (b : ℕ) → Not (Free r (area b k))))
+    Sound r × ((end_of (area p.base k) ≤ kept → Lowest r (area p.base k)) × (kept < end_of (area p.base k) → (b : ℕ) → ¬ (Free r (area b k))))
