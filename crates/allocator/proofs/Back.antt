@@ -1,20 +1,20 @@
 -- What is released is free again, and what a call changes of the areas out.
-use Prim.Native.Nat.{ℕ, ◌/◌, ◌%◌, ◌^◌, ◌≤◌, ◌<◌}
+use Prim.Native.Nat.{ℕ, ◌/◌, ◌≤◌, ◌<◌}
 use mathlib.Core.Path.{◌≡◌, refl, sym, subst, ap, ap₂, ◌∙◌}
 use mathlib.Core.Logic.{◌⊎◌, inl, inr, ⊎_elim, ◌↔◌}
 use mathlib.Core.List.{List}
 use native.Mathlib.Omega.{arith}
 use native.Mathlib.Decide.{dec_lt}
 use lib.ListN.{length}
-use Rattle.std.proofs.lemmas.List.{get_or-set_same, get_or-set_other, set-get_or, length-set, ext_get_or}
+use Rattle.std.proofs.lemmas.List.{get_or-set_same, get_or-set_other, length-set, ext_get_or}
 use Rattle.std.specs.Prelude.{slice_index, slice_set}
-use Rattle.allocator.specs.Record.{Area, area, Apart, IsExponent, IsSize, Out, Sound, Free, Lowest}
+use Rattle.allocator.specs.Record.{Area, area, IsExponent, IsSize, Out, Sound, Free}
 use Rattle.allocator.specs.Calls as S
 use Rattle.allocator.specs.Calls.{Allocates, Releases}
 use Rattle.allocator.proofs.Multiples.{power_some}
+use Rattle.allocator.proofs.Areas.{one_at}
 use Rattle.allocator.proofs.Kept.{either, odd, at, was, stays, given_sound, back_sound}
 use Rattle.allocator.proofs.Sizes.{one_exponent}
-use Rattle.allocator.proofs.Told.{given_told, back_told}
 
 -- ---- given, then handed back
 
@@ -66,15 +66,8 @@ module _ (r : List ℕ) (b k : ℕ) (z : Sound r) (o : Out r (area b k)) where
         multiple = z.bases (area b k) o;
         inside = z.inside (area b k) o;
         apart = λ a p. ⊎_elim (λ e. absurd (omega (arith, e.1.1)))
-            (λ c. elim (dec_lt b a.base) [
-              | yes g ↦ z.apart (area b k) a o c.0 g
-              | no g ↦ ⊎_elim (λ h. inr h) (λ h. inl h) (z.apart a (area b k) c.0 o (below a c.1 g))
-            ])
-            (was r b 0 o.0 o.1.0 a p);
+            (λ c. z.apart (area b k) a o c.0 (λ e. c.1 (sym (ap (λ (d : Area). d.base) e)))) (was r b 0 o.0 o.1.0 a p);
       }
-    where
-      below : (a : Area) → ¬ (a.base ≡ b) → ¬ (b < a.base) → a.base < b
-      below a n g = omega (arith, n, g)
 
 -- a release, and then an area of that size asked for: given, at that base or a lower one
 pub back_given : {n m b q c : ℕ} {r s t : List ℕ} → Releases r b n m s → m ≡ 0 → Allocates s n q c t → (q ≡ 0) × (c ≤ b)
@@ -88,10 +81,6 @@ back_given {n} {b = b} {r = r} (S.back k w z o) e (S.given j c v u f) = (refl, f
 
 -- ---- what a call changes of the areas out
 
--- of one record, two areas out with one base are the same
-pub one_at : (r : List ℕ) (a c : Area) → Out r a → Out r c → a.base ≡ c.base → a ≡ c
-one_at r a c o p e = ap₂ area e (sym o.1.1.0 ∙ ap (λ (x : ℕ). slice_index r (x / 16)) e ∙ p.1.1.0)
-
 -- an area that is free does not begin where one is out
 pub begins_elsewhere : {r : List ℕ} {b k : ℕ} → Free r (area b k) → (a : Area) → Out r a → ¬ (a.base ≡ b)
 begins_elsewhere {r} {b} {k} f a o e =
@@ -103,10 +92,11 @@ given_shows k w (S.no_size u) e a = absurd (omega (arith, e))
 given_shows k w (S.unsound u v) e a = absurd (omega (arith, e))
 given_shows k w (S.no_space j v u f) e a = absurd (omega (arith, e))
 given_shows {n} {r = r} k w (S.given j b v z f) e a =
-    rw (one_exponent n k j w v)
-    ((λ o. ⊎_elim (λ p. inl (ap₂ area p.0 p.1.0)) (λ p. inr p.0) (was r b j (odd r j b v.0 z f.0) (at r j b v.0 z f.0) a o)),
-    (λ c. ⊎_elim (λ p. rw p (given_out r j b v.0 z f.0))
-        (λ o. stays r b j (odd r j b v.0 z f.0) (at r j b v.0 z f.0) a o (begins_elsewhere f.0 a o)) c))
+    rw (one_exponent n k j w v) (
+      (λ o. ⊎_elim (λ p. inl (ap₂ area p.0 p.1.0)) (λ p. inr p.0) (was r b j (odd r j b v.0 z f.0) (at r j b v.0 z f.0) a o)),
+      (λ c. ⊎_elim (λ p. rw p (given_out r j b v.0 z f.0))
+          (λ o. stays r b j (odd r j b v.0 z f.0) (at r j b v.0 z f.0) a o (begins_elsewhere f.0 a o)) c),
+    )
 
 -- taken back: those of before, but this one
 pub back_shows : {b n m : ℕ} {r s : List ℕ} → (k : ℕ) → IsSize k n → Releases r b n m s → m ≡ 0 → (a : Area) → (Out s a ↔ (Out r a × ¬ (a ≡ area b k)))
@@ -114,6 +104,7 @@ back_shows k w (S.no_size u) e a = absurd (omega (arith, e))
 back_shows k w (S.unsound u v) e a = absurd (omega (arith, e))
 back_shows k w (S.not_out j v u o) e a = absurd (omega (arith, e))
 back_shows {b} {n} {r = r} k w (S.back j v z o) e a =
-    rw (one_exponent n k j w v)
-    ((λ p. ⊎_elim (λ q. absurd (omega (arith, q.1.1))) (λ q. (q.0, λ i. q.1 (ap (λ (c : Area). c.base) i))) (was r b 0 o.0 o.1.0 a p)),
-    (λ p. stays r b 0 o.0 o.1.0 a p.0 (λ i. p.1 (one_at r a (area b j) p.0 o i))))
+    rw (one_exponent n k j w v) (
+      (λ p. ⊎_elim (λ q. absurd (omega (arith, q.1.1))) (λ q. (q.0, λ i. q.1 (ap (λ (c : Area). c.base) i))) (was r b 0 o.0 o.1.0 a p)),
+      (λ p. stays r b 0 o.0 o.1.0 a p.0 (λ i. p.1 (one_at r a (area b j) p.0 o i))),
+    )

@@ -1,11 +1,11 @@
 -- Eight bytes that are all 0, and what is known of a record past them.
 use Prim.Native.Nat.{ℕ, ◌+◌, ◌-◌, ◌*◌, ◌/◌, ◌≤◌, ◌<◌}
-use mathlib.Core.Path.{◌≡◌, refl, sym, subst, ap, ◌∙◌}
+use mathlib.Core.Path.{◌≡◌, sym, ap, ◌∙◌}
 use mathlib.Core.Bool.{Bool, true}
 use mathlib.Core.List.{List}
 use native.Mathlib.Omega.{arith}
 use native.Mathlib.Decide.{dec_lt}
-use lib.ListN.{length, take, drop, replicate, get_or-replicate}
+use lib.ListN.{take, drop, replicate, get_or-replicate}
 use lib.Pointwise.{pointwise}
 use Rattle.std.specs.Prelude.{slice_index, nat_eq}
 use Rattle.std.specs.Cmp.{unsigned_Decides}
@@ -20,7 +20,7 @@ module _ (r : List ℕ) (n : ℕ) where
   all_zero b e t i l m =
       let same : take (n + 8 - n) (drop n r) ≡ replicate 8 0 = (slice_eq-Decides unsigned_Decides _ _ b e).0 t in
       let one : slice_index (take (n + 8 - n) (drop n r)) (i - n) ≡ slice_index r (n + (i - n)) =
-          get_or-take (n + 8 - n) (drop n r) (i - n) 0 (omega (arith, l, m)) ∙ get_or-drop n r (i - n) 0 in
+      get_or-take (n + 8 - n) (drop n r) (i - n) 0 (omega (arith, l, m)) ∙ get_or-drop n r (i - n) 0 in
       let two : n + (i - n) ≡ i = omega (arith, l) in
       let three : slice_index (replicate 8 0) (i - n) ≡ 0 = get_or-replicate 8 (i - n) 0 0 (omega (arith, l, m)) in
       sym (ap (λ (j : ℕ). slice_index r j) two) ∙ sym one ∙ ap (λ (xs : List ℕ). slice_index xs (i - n)) same ∙ three

@@ -1,6 +1,6 @@
 -- A sound record stays sound.
 use Prim.Native.Nat.{ℕ, ◌/◌, ◌%◌, ◌^◌, ◌<◌}
-use mathlib.Core.Path.{◌≡◌, refl, sym, subst, ap, ◌∙◌}
+use mathlib.Core.Path.{◌≡◌, refl, sym, subst, ap, ap₂, ◌∙◌}
 use mathlib.Core.Logic.{◌⊎◌, inl, inr, ⊎_elim}
 use mathlib.Core.Bool.{Bool, true, false}
 use mathlib.Core.List.{List}
@@ -11,8 +11,9 @@ use borrow.Author.Tests.{eqb-true, eqb-false}
 use lib.ListN.{length}
 use Rattle.std.proofs.lemmas.List.{get_or-set_same, get_or-set_other, length-set}
 use Rattle.std.specs.Prelude.{slice_index, slice_set}
+use Rattle.allocator.proofs.Areas.{swapped}
 use Rattle.layout.proofs.Sizes.{divides}
-use Rattle.allocator.specs.Record.{Area, area, Apart, IsExponent, Out, Sound, Free}
+use Rattle.allocator.specs.Record.{Area, area, IsExponent, Out, Sound, Free}
 use Rattle.allocator.specs.Calls as S
 use Rattle.allocator.specs.Calls.{Allocates, Releases}
 
@@ -67,16 +68,13 @@ module _ (r : List ℕ) (k b : ℕ) (w : IsExponent k) (z : Sound r) (f : Free r
         bases = λ a o. ⊎_elim (λ e. rw (e.0, e.1.0) f.multiple) (λ c. z.bases a c.0) (split a o);
         inside = λ a o. ⊎_elim (λ e. rw (e.0, e.1.0) f.inside) (λ c. z.inside a c.0) (split a o);
         apart = λ x y o q h. ⊎_elim
-            (λ e. ⊎_elim (λ d. absurd (omega (arith, e.0, d.0, h))) (λ d. rw (e.0, e.1.0) (f.apart y d.0)) (split y q))
+            (λ e. ⊎_elim (λ d. absurd (h (ap₂ area (e.0 ∙ sym d.0) (e.1.0 ∙ sym d.1.0)))) (λ d. rw (e.0, e.1.0) (f.apart y d.0)) (split y q))
             (λ c. ⊎_elim (λ d. rw (d.0, d.1.0) (swapped (area b k) x (f.apart x c.0))) (λ d. z.apart x y c.0 d.0 h) (split y q))
             (split x o);
       }
     where
       split : (a : Area) → Out (slice_set r (b / 16) k) a → ((a.base ≡ b) × ((a.k ≡ k) × (0 < k))) ⊎ (Out r a × ¬ (a.base ≡ b))
       split = was r b k odd at
-
-      swapped : (x y : Area) → Apart x y → Apart y x
-      swapped x y p = ⊎_elim (λ h. inr h) (λ h. inl h) p
 
 -- ---- an area taken back
 

@@ -1,3 +1,4 @@
+pub mod Areas
 pub mod Multiples
 pub mod Seen
 pub mod Clear
@@ -7,3 +8,4 @@ pub mod Kept
 pub mod Told
 pub mod Back
 pub mod Lists
+pub mod Placed

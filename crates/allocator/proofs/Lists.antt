@@ -1,18 +1,17 @@
 -- Lists of calls: two areas out never overlap, and one that is out stays out until it is handed back.
 use Prim.Native.Nat.{ℕ, ◌/◌, ◌^◌, ◌<◌}
 use mathlib.Core.Path.{◌≡◌, refl, sym, subst, ap, ◌∙◌}
-use mathlib.Core.Logic.{inl, inr, ⊎_elim}
+use mathlib.Core.Logic.{inr}
 use mathlib.Core.List.{List}
 use native.Mathlib.Omega.{arith}
-use native.Mathlib.Decide.{dec_lt}
 use lib.ListN.{get_or-replicate, length-replicate}
-use Rattle.allocator.specs.Record.{Area, area, size_of, Apart, Out, Sound}
+use Rattle.allocator.specs.Record.{Area, size_of, Apart, Out, Sound}
 use Rattle.allocator.specs.Calls as S
 use Rattle.allocator.specs.Calls.{Allocates, Releases}
 use Rattle.allocator.specs.Lists as L
 use Rattle.allocator.specs.Lists.{Request, Leads, Keeps, empty}
 use Rattle.allocator.proofs.Kept.{allocates_sound, releases_sound}
-use Rattle.allocator.proofs.Back.{one_at, given_shows, back_shows}
+use Rattle.allocator.proofs.Back.{given_shows, back_shows}
 
 none_out : (a : Area) → ¬ (Out empty a)
 none_out a o =
@@ -50,19 +49,7 @@ releases_keeps {b} {n} {r = r} (S.back k w x y) a h o =
 
 -- after every list of calls from the empty record, any two areas out are apart
 pub never_overlap : {rs : List Request} {r : List ℕ} → Leads rs empty r → (a b : Area) → Out r a → Out r b → ¬ (a ≡ b) → Apart a b
-never_overlap {r = r} l a b o p n =
-    let z = leads_sound l empty_sound in
-    elim (dec_lt a.base b.base) [
-      | yes h ↦ z.apart a b o p h
-      | no h ↦ ⊎_elim (λ q. inr q) (λ q. inl q) (z.apart b a p o (other h))
-    ]
-  where
-    other : ¬ (a.base < b.base) → b.base < a.base
-    other h =
-        elim (dec_lt b.base a.base) [
-          | yes g ↦ g
-          | no g ↦ absurd (n (one_at r a b o p (omega (arith, h, g))))
-        ]
+never_overlap l = (leads_sound l empty_sound).apart
 
 -- and an area out stays out until it is handed back by its base and size, whatever else is asked for, handed back or refused
 pub stays_out : {rs : List Request} {r s : List ℕ} → Leads rs r s → (a : Area) → Keeps a rs → Out r a → Out s a

@@ -10,11 +10,12 @@ use native.Mathlib.Decide.{dec_lt}
 use lib.Dec.{eqb, ltb}
 use lib.ListN.{length}
 use borrow.Author.Tests.{ltb-true, ltb-false, eqb-true, eqb-false}
-use Rattle.std.specs.Prelude.{Option, Some, None, slice_index}
+use Rattle.std.specs.Prelude.{Some, None, slice_index}
 use Rattle.word.proofs.Choice.{by_test}
 use Rattle.allocator.specs.declared.pass.Pass.{Pass}
 use Rattle.allocator.specs.Record.{Area, area, size_of, end_of, Apart, IsExponent, IsSize, Out, Sound, Free, kept}
 use Rattle.allocator.specs.Pass.{rounded, taken, looked, Before, Seen, Known, Passed}
+use Rattle.allocator.proofs.Areas.{others, in_order}
 use Rattle.allocator.proofs.Multiples.{further, rounded_multiple, rounded_least, rounded_most, kept_multiple, power_some}
 
 -- ---- nothing begins between two addresses
@@ -160,7 +161,7 @@ module _ (r : List ℕ) (k x j : ℕ) (p : Pass) (u : x % 16 ≡ 0) (l : x / 16 
         overlapped : x < p.end → ⊥
         overlapped h =
             ⊎_elim (λ e. omega (arith, e, h))
-            (λ t. ⊎_elim (λ f. omega (arith, f, t.1.1, h)) (λ f. omega (arith, f, t.1.0.1)) (z.apart t.0 This t.1.0.0 out t.1.0.1)) s.attained
+            (λ t. ⊎_elim (λ f. omega (arith, f, t.1.1, h)) (λ f. omega (arith, f, t.1.0.1)) (z.apart t.0 This t.1.0.0 out (others t.0 This t.1.0.1))) s.attained
 
 -- ---- the code's step is this one
 
@@ -244,7 +245,7 @@ module _ (r : List ℕ) (k : ℕ) (p : Pass) (l : length r ≡ 65536) where
       sizes = λ a o. s.sizes a (all a o);
       bases = λ a o. s.bases a (all a o);
       inside = λ a o. omega (arith, s.ends a (all a o), s.end_most);
-      apart = λ a b o q. s.apart a b (all a o) (all b q);
+      apart = in_order r (λ a b o q. s.apart a b (all a o) (all b q));
     },
     (
       λ h. (record { multiple = s.multiple; inside = h; apart = λ b o. s.free b (all b o) }, λ b f. lowest b f),

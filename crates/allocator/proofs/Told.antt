@@ -1,13 +1,11 @@
 -- What a call's number tells, and that each call answers one thing and leaves one record.
-use Prim.Native.Nat.{ℕ, ◌/◌, ◌^◌, ◌≤◌, ◌<◌}
-use mathlib.Core.Path.{◌≡◌, refl, sym, ap, ◌∙◌}
+use Prim.Native.Nat.{ℕ, ◌/◌}
+use mathlib.Core.Path.{◌≡◌, refl, sym}
 use mathlib.Core.Logic.{◌↔◌}
 use mathlib.Core.List.{List}
 use native.Mathlib.Omega.{arith}
-use lib.ListN.{length}
-use Rattle.std.proofs.lemmas.List.{get_or-set_other}
-use Rattle.std.specs.Prelude.{slice_index, slice_set}
-use Rattle.allocator.specs.Record.{Area, area, IsSize, Size, Out, Sound, Free, Lowest}
+use Rattle.std.specs.Prelude.{slice_set}
+use Rattle.allocator.specs.Record.{area, IsSize, Size, Out, Sound, Free, Lowest}
 use Rattle.allocator.specs.Calls as S
 use Rattle.allocator.specs.Calls.{Allocates, Releases, no_base}
 use Rattle.allocator.proofs.Sizes.{one_exponent}

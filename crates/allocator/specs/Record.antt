@@ -48,7 +48,7 @@ pub record Sound (r : List ℕ) : Type 0 where
   pub sizes : (a : Area) → Out r a → IsExponent a.k
   pub bases : (a : Area) → Out r a → a.base % size_of a ≡ 0
   pub inside : (a : Area) → Out r a → end_of a ≤ kept
-  pub apart : (a b : Area) → Out r a → Out r b → a.base < b.base → Apart a b
+  pub apart : (a b : Area) → Out r a → Out r b → ¬ (a ≡ b) → Apart a b
 
 -- ---- what is free
 

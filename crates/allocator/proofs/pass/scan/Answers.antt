@@ -1,6 +1,6 @@
 use mathlib.Core.Path.{◌≡◌, refl}
 use native.Mathlib.Omega.{arith}
-use Rattle.std.proofs.Common.{ℕ, ◌*◌, ◌+◌}
+use Rattle.std.proofs.Common.{◌*◌, ◌+◌}
 use Rattle.allocator.proofs.Clear.{seen_clear}
 use Rattle.allocator.proofs.pass.scan.Goals.{then-not-is_clear+in_ok-seen, else-not-is_clear}
 use Rattle.allocator.proofs.pass.scan.Goals as goal
