@@ -11,5 +11,5 @@ loop-i-preserved c = λ k s.
     rw e
     (elim c.if-not-is_clear.branch [
       | then-not-is_clear+in_ok-seen w ↦ rw w.seen-is (w.in_ok-seen.ensures k s)
-      | else-not-is_clear w ↦ rw w.seen-is (seen_clear c.args.bytes.now (8 * c.loop-i.i) k c.loop-i.seen (w.if-not-is_clear.ensures refl) (c.loop-i.invariant k s))
+      | else-not-is_clear w ↦ rw w.seen-is (seen_clear c.args.bytes.now (8 * c.loop-i.i) k c.loop-i.seen (w.if-not-is_clear.ensures.0 refl) (c.loop-i.invariant k s))
     ])
