@@ -49,6 +49,13 @@ module _ {r : List ℕ} {n : ℕ} where
   refused_keeps (S.no_space k w x y) e = (refl, refl)
   refused_keeps (S.given k b w x y) e = absurd (e refl)
 
+  -- and only then is there no base
+  pub no_base_told : {m b : ℕ} {s : List ℕ} → Allocates r n m b s → ((b ≡ no_base) ↔ (¬ (m ≡ 0)))
+  no_base_told (S.no_size x) = ((λ e h. omega (arith, h)), (λ h. refl))
+  no_base_told (S.unsound x y) = ((λ e h. omega (arith, h)), (λ h. refl))
+  no_base_told (S.no_space k w x y) = ((λ e h. omega (arith, h)), (λ h. refl))
+  no_base_told (S.given k b w x y) = ((λ e. absurd (omega (arith, e, y.0.inside))), (λ h. absurd (h refl)))
+
 -- a free area that no lower one of its size is below
 lowest_one : {r : List ℕ} {k b c : ℕ} → Lowest r (area b k) → Lowest r (area c k) → b ≡ c
 lowest_one x y = omega (arith, x.1 _ y.0, y.1 _ x.0)
