@@ -1,4 +1,4 @@
--- The number of each refusal (document 01, Refusal table; document 02, Tickets 2 and 5), and that of a result, which may be one.
+-- The number of each refusal (document 01, Refusal table; document 02, Tickets 2, 5 and 6), and that of a result, which may be one.
 use Rattle.std.specs.Prelude.{ℕ, ◌≡◌, Bool, true, false, Result, Ok, Err}
 use Rattle.refusal.specs.declared.Refusal.{Refusal}
 use Rattle.refusal.specs.declared.Refusal.TheVariants.{MemoryTooLong, CodeSize, DataSize, CodePlace, DataPlace, Overlap, ImageLength, NoInstruction, Barred, WritesBase, LinkOverBase, DataGuard, CodeGuard, BranchAfterBranch, Target, NoLastJump, State, IllegalField, NotServed, NotForward, LastBundle, DataMask, NoSpace, AreasOut}
