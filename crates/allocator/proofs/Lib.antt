@@ -4,7 +4,7 @@ pub mod Seen
 pub mod Clear
 pub mod Sizes
 pub mod Calls
-pub mod Kept
+pub mod Soundness
 pub mod Told
 pub mod Back
 pub mod Lists

@@ -13,7 +13,7 @@ use borrow.Author.Tests.{ltb-true, ltb-false, eqb-true, eqb-false}
 use Rattle.std.specs.Prelude.{Some, None, slice_index}
 use Rattle.word.proofs.Choice.{by_test}
 use Rattle.allocator.specs.declared.pass.Pass.{Pass}
-use Rattle.allocator.specs.Record.{Area, area, size_of, end_of, Apart, IsExponent, IsSize, Out, Sound, Free, kept}
+use Rattle.allocator.specs.Record.{Area, area, size_of, end_of, Apart, IsExponent, IsSize, Out, Sound, Free, memory_size}
 use Rattle.allocator.specs.Pass.{rounded, taken, looked, Before, Seen, Known, Passed}
 use Rattle.allocator.proofs.Areas.{others, in_order}
 use Rattle.allocator.proofs.Multiples.{further, rounded_multiple, rounded_least, rounded_most, kept_multiple, power_some}
@@ -63,7 +63,7 @@ module _ (r : List ℕ) (k x j : ℕ) (p : Pass) (u : x % 16 ≡ 0) (l : x / 16 
     pub end_is : q.end ≡ x + 2 ^ j
     pub base_is : q.base ≡ cond (ltb x (p.base + 2 ^ k)) (rounded (2 ^ k) (x + 2 ^ j)) p.base
 
-  module _ (s : Seen r k x p) (v : x < kept) (w : IsExponent k) {q : Pass} (t : Taken q) where
+  module _ (s : Seen r k x p) (v : x < memory_size) (w : IsExponent k) {q : Pass} (t : Taken q) where
     both : (P : Area → Type 0) → ((a : Area) → Before r x a → P a) → ((a : Area) → a.base ≡ x → a.k ≡ j → P a) → (a : Area) → Before r (x + 16) a → P a
     both P f g a b = ⊎_elim (λ c. f a c) (λ e. g a e.0 e.1) (split a b)
 
@@ -85,8 +85,8 @@ module _ (r : List ℕ) (k x j : ℕ) (p : Pass) (u : x % 16 ≡ 0) (l : x / 16 
         (λ e. ⊎_elim (λ d. absurd (omega (arith, d.1, e.0, h))) (λ d. absurd (omega (arith, e.0, d.0, h))) (split a m))
         (split a m)
 
-    inside : x + 2 ^ j ≤ kept
-    inside = further (2 ^ j) x kept t.aligned (kept_multiple j t.most) v
+    inside : x + 2 ^ j ≤ memory_size
+    inside = further (2 ^ j) x memory_size t.aligned (kept_multiple j t.most) v
 
     -- the lowest base, where this one leaves it and where it doesn't
     module _ (h : p.base + 2 ^ k ≤ x) (e : q.base ≡ p.base) where
@@ -112,10 +112,10 @@ module _ (r : List ℕ) (k x j : ℕ) (p : Pass) (u : x % 16 ≡ 0) (l : x / 16 
               let f = further (2 ^ k) b q.base m (rw e (rounded_multiple (2 ^ k) (x + 2 ^ j) (power_some k))) l in
               omega (arith, f, e, rounded_most (2 ^ k) (x + 2 ^ j) (power_some k))
 
-      moved_most : q.base ≤ kept
+      moved_most : q.base ≤ memory_size
       moved_most =
-          elim (dec_lt kept q.base) [
-            | yes g ↦ (let f = further (2 ^ k) kept q.base (kept_multiple k w.1) (rw e (rounded_multiple (2 ^ k) (x + 2 ^ j) (power_some k))) g in
+          elim (dec_lt memory_size q.base) [
+            | yes g ↦ (let f = further (2 ^ k) memory_size q.base (kept_multiple k w.1) (rw e (rounded_multiple (2 ^ k) (x + 2 ^ j) (power_some k))) g in
                 absurd (omega (arith, f, e, rounded_most (2 ^ k) (x + 2 ^ j) (power_some k), inside)))
             | no g ↦ omega (arith, g)
           ]
@@ -125,7 +125,7 @@ module _ (r : List ℕ) (k x j : ℕ) (p : Pass) (u : x % 16 ≡ 0) (l : x / 16 
       where
         with_base : q.base % 2 ^ k ≡ 0 → ((a : Area) → Before r (x + 16) a → Apart (area q.base k) a)
             → ((b : ℕ) → b % 2 ^ k ≡ 0 → b < q.base → (a : Area) × (Before r (x + 16) a × ¬ (Apart (area b k) a)))
-            → q.base ≤ kept → Seen r k (x + 16) q
+            → q.base ≤ memory_size → Seen r k (x + 16) q
         with_base m f l n =
             record {
               sizes = both (λ a. IsExponent a.k) s.sizes (λ a e f. rw f (t.least, t.most));
@@ -235,10 +235,10 @@ seen_begin r k =
 -- ---- at the end
 
 module _ (r : List ℕ) (k : ℕ) (p : Pass) (l : length r ≡ 65536) where
-  all : (a : Area) → Out r a → Before r kept a
+  all : (a : Area) → Out r a → Before r memory_size a
   all a o = (o, omega (arith, o.0, o.1.0, l))
 
-  pub seen_all : Seen r k kept p → Passed r k (Some p)
+  pub seen_all : Seen r k memory_size p → Passed r k (Some p)
   seen_all s = (
     record {
       length_is = l;

@@ -1,8 +1,15 @@
--- One pass over a record, for areas of 2^k bytes: what the code keeps of the areas that begin before a place. The calls (specs/Calls) do not rest on
--- this; `seen_*` of proofs/Seen tie the two together.
-use Rattle.std.specs.Prelude.{ℕ, ◌+◌, ◌-◌, ◌%◌, ◌^◌, ◌≤◌, ◌<◌, ◌≡◌, ◌⊎◌, cond, not, ◌||◌, eqb, ltb, List, Option, Some, None}
+-- What the parts of the code answer: the k of a size, and one pass over a record, for areas of 2^k bytes. No promise of the calls (specs/Calls) rests
+-- on this; `seen_next`, `unsound_next` and `seen_all` of proofs/Seen tie the two together.
+use Rattle.std.specs.Prelude.{ℕ, ◌+◌, ◌-◌, ◌%◌, ◌^◌, ◌≤◌, ◌<◌, ◌≡◌, ◌⊎◌, cond, not, ◌||◌, eqb, ltb, List, Option, Some, None, Result, Ok, Err}
+use Rattle.refusal.specs.declared.Refusal.{Refusal}
+use Rattle.refusal.specs.Refusal.{number_of}
 use Rattle.allocator.specs.declared.pass.Pass.{Pass}
-use Rattle.allocator.specs.Record.{Area, area, size_of, end_of, Apart, IsExponent, Out, Sound, Free, Lowest, kept}
+use Rattle.allocator.specs.Record.{Area, area, size_of, end_of, Apart, IsExponent, IsSize, Size, Out, Sound, Free, Lowest, memory_size}
+
+-- the k of a size, or the refusal of what is none
+abbrev pub Exponent : ℕ → Result ℕ Refusal → Type 0
+Exponent n (Ok k) = IsSize k n
+Exponent n (Err e) = (number_of e ≡ 2) × ¬ (Size n)
 
 -- the least multiple of n from x on
 abbrev pub rounded : ℕ → ℕ → ℕ
@@ -33,8 +40,8 @@ pub record Seen (r : List ℕ) (k x : ℕ) (p : Pass) : Type 0 where
   pub multiple : p.base % 2 ^ k ≡ 0
   pub free : (a : Area) → Before r x a → Apart (area p.base k) a
   pub lower : (b : ℕ) → b % 2 ^ k ≡ 0 → b < p.base → (a : Area) × (Before r x a × ¬ (Apart (area b k) a))
-  pub end_most : p.end ≤ kept
-  pub base_most : p.base ≤ kept
+  pub end_most : p.end ≤ memory_size
+  pub base_most : p.base ≤ memory_size
 
 -- what is known with the next bytes
 abbrev pub Known : List ℕ → ℕ → ℕ → Option Pass → Type 0
@@ -45,4 +52,4 @@ Known r k x (Some p) = Seen r k x p
 abbrev pub Passed : List ℕ → ℕ → Option Pass → Type 0
 Passed r k None = ¬ (Sound r)
 Passed r k (Some p) =
-    Sound r × ((end_of (area p.base k) ≤ kept → Lowest r (area p.base k)) × (kept < end_of (area p.base k) → (b : ℕ) → ¬ (Free r (area b k))))
+    Sound r × ((end_of (area p.base k) ≤ memory_size → Lowest r (area p.base k)) × (memory_size < end_of (area p.base k) → (b : ℕ) → ¬ (Free r (area b k))))

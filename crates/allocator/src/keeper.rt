@@ -3,17 +3,18 @@ ghost use Rattle.std.specs.Prelude.{◌≡◌};
 ghost use Rattle.refusal.specs.Refusal.{refused_number};
 ghost use Rattle.allocator.specs.Record.{IsSize, Size};
 ghost use Rattle.allocator.specs.Calls as Spec;
+ghost use Rattle.allocator.specs.Pass.{Exponent};
 
 use crate::pass::scan;
 use refusal::{Ending, Refusal};
 
-// The bytes that the keeper has.
-const KEPT: u32 = 1048576;
+// The memory that the keeper has.
+const MEMORY_SIZE: u32 = 1048576;
 
 // The k of a size 2^k.
 #[tactic(auto, using(crate::proofs::Sizes::no_size, crate::proofs::Sizes::exponent, crate::proofs::Sizes::exponent_byte))]
 fn exponent(size: u32) -> Result<u8, Refusal>
-    ensures { Spec.Exponent size result }
+    ensures { Exponent size result }
 {
     Refusal::CodeSize.when(!layout::is_size(size, 16))?;
     Ok(size.trailing_zeros() as u8)
@@ -25,9 +26,9 @@ pub fn allocate(bytes: &mut [u8], size: u32) -> Result<u32, Refusal>
 {
     let k = exponent(size)?;
     let Some(seen) = scan(bytes, size) else {
-        return Err(Refusal::AreasOut);
+        return Err(Refusal::Record);
     };
-    if KEPT < seen.base + size {
+    if MEMORY_SIZE < seen.base + size {
         return Err(Refusal::NoSpace);
     }
     bytes[(seen.base / 16) as usize] = k;
@@ -40,11 +41,11 @@ pub fn release(bytes: &mut [u8], base: u32, size: u32) -> Result<(), Refusal>
 {
     let k = exponent(size)?;
     let Some(_) = scan(bytes, size) else {
-        return Err(Refusal::AreasOut);
+        return Err(Refusal::Record);
     };
     let at = (base / 16) as usize;
-    if base % 16 != 0 || KEPT <= base || bytes[at] != k {
-        return Err(Refusal::AreasOut);
+    if base % 16 != 0 || MEMORY_SIZE <= base || bytes[at] != k {
+        return Err(Refusal::Record);
     }
     bytes[at] = 0;
     Ok(())

@@ -3,7 +3,7 @@ ghost use Rattle.std.specs.Prelude.{◌≡◌, ◌+◌, ◌*◌, ◌^◌, ◌≤
 ghost use Rattle.std.specs.Int.{is_power_of_two};
 ghost use Rattle.std.specs.Option.{ForSome};
 ghost use Rattle.allocator.specs.Pass as Spec;
-ghost use Rattle.allocator.specs.Record.{IsSize, Size, kept};
+ghost use Rattle.allocator.specs.Record.{IsSize, Size, memory_size};
 
 // Of the areas out that begin before some place: where the last one ends, and the lowest base at which an area of the size that is wanted overlaps
 // none of them.
@@ -41,8 +41,8 @@ impl Pass {
     fn take(self, at: u32, k: u8, size: u32) -> Option<Pass>
         requires power { is_power_of_two size ≡ true }
         requires most { size ≤ 65536 }
-        requires place { at < kept }
-        requires base { self.base ≤ kept }
+        requires place { at < memory_size }
+        requires base { self.base ≤ memory_size }
         ensures { result ≡ Spec.taken size self at k }
     {
         if k < 4 || 16 < k {
@@ -66,8 +66,8 @@ impl Pass {
     fn next(self, at: u32, byte: u8, size: u32) -> Option<Pass>
         requires power { is_power_of_two size ≡ true }
         requires most { size ≤ 65536 }
-        requires place { at < kept }
-        requires base { self.base ≤ kept }
+        requires place { at < memory_size }
+        requires base { self.base ≤ memory_size }
         ensures { result ≡ Spec.looked size self at byte }
     {
         if byte == 0 {
@@ -108,7 +108,7 @@ fn is_clear(bytes: &[u8], from: usize) -> bool
 pub fn scan(bytes: &[u8], size: u32) -> Option<Pass>
     requires { Size size }
     ensures passed { (k : ℕ) → IsSize k size → Spec.Passed bytes.now k result }
-    ensures most { ForSome result (λ p. p.base ≤ kept) }
+    ensures most { ForSome result (λ p. p.base ≤ memory_size) }
 {
     if bytes.len() != 65536 {
         return None;

@@ -26,7 +26,7 @@ pub enum Refusal {
     LastBundle = 21,
     DataMask = 22,
     NoSpace = 23,
-    AreasOut = 24,
+    Record = 24,
 }
 
 // What a rule that is broken, or a test that holds, ends in: a refusal, or an exit of the machine.

@@ -37,8 +37,8 @@ module _ (r : List ℕ) (b v : ℕ) (u : b % 16 ≡ 0) (l : b / 16 < length r) w
   elsewhere j n = get_or-set_other r (b / 16) j v 0 n
 
   -- an area out then is this one, or was out before
-  pub was : (a : Area) → Out after a → ((a.base ≡ b) × ((a.k ≡ v) × (0 < v))) ⊎ (Out r a × ¬ (a.base ≡ b))
-  was a o =
+  pub out_before : (a : Area) → Out after a → ((a.base ≡ b) × ((a.k ≡ v) × (0 < v))) ⊎ (Out r a × ¬ (a.base ≡ b))
+  out_before a o =
       let m : a.base / 16 < length r = subst (λ (n : ℕ). a.base / 16 < n) (length-set r (b / 16) v) o.1.0 in
       ⊎_elim
       (λ e. let k : a.k ≡ v = sym o.1.1.0 ∙ ap (λ (x : ℕ). slice_index after (x / 16)) e ∙ there in inl (e, (k, omega (arith, k, o.1.1.1))))
@@ -46,19 +46,20 @@ module _ (r : List ℕ) (b v : ℕ) (u : b % 16 ≡ 0) (l : b / 16 < length r) w
       (either a.base b)
 
   -- and what was out, but for that one, is
-  pub stays : (a : Area) → Out r a → ¬ (a.base ≡ b) → Out after a
-  stays a o n =
+  pub out_after : (a : Area) → Out r a → ¬ (a.base ≡ b) → Out after a
+  out_after a o n =
       let m : a.base / 16 < length after = subst (λ (x : ℕ). a.base / 16 < x) (sym (length-set r (b / 16) v)) o.1.0 in
       (o.0, (m, (elsewhere (a.base / 16) (λ e. n (omega (arith, e, u, o.0))) ∙ o.1.1.0, o.1.1.1)))
 
 -- ---- an area given
 
 module _ (r : List ℕ) (k b : ℕ) (w : IsExponent k) (z : Sound r) (f : Free r (area b k)) where
-  pub odd : b % 16 ≡ 0
-  odd = divides 4 (2 ^ k) b (k, refl) (pow_mono w.0) f.multiple
+  -- it begins at one of the record's bytes
+  pub sixteens : b % 16 ≡ 0
+  sixteens = divides 4 (2 ^ k) b (k, refl) (pow_mono w.0) f.multiple
 
-  pub at : b / 16 < length r
-  at = omega (arith, f.inside, z.length_is)
+  pub within : b / 16 < length r
+  within = omega (arith, f.inside, z.length_is)
 
   pub given_sound : Sound (slice_set r (b / 16) k)
   given_sound =
@@ -74,13 +75,13 @@ module _ (r : List ℕ) (k b : ℕ) (w : IsExponent k) (z : Sound r) (f : Free r
       }
     where
       split : (a : Area) → Out (slice_set r (b / 16) k) a → ((a.base ≡ b) × ((a.k ≡ k) × (0 < k))) ⊎ (Out r a × ¬ (a.base ≡ b))
-      split = was r b k odd at
+      split = out_before r b k sixteens within
 
 -- ---- an area taken back
 
 module _ (r : List ℕ) (b k : ℕ) (z : Sound r) (o : Out r (area b k)) where
   split_back : (a : Area) → Out (slice_set r (b / 16) 0) a → Out r a
-  split_back a p = ⊎_elim (λ e. absurd (omega (arith, e.1.1))) (λ c. c.0) (was r b 0 o.0 o.1.0 a p)
+  split_back a p = ⊎_elim (λ e. absurd (omega (arith, e.1.1))) (λ c. c.0) (out_before r b 0 o.0 o.1.0 a p)
 
   pub back_sound : Sound (slice_set r (b / 16) 0)
   back_sound =
@@ -104,4 +105,4 @@ pub releases_sound : {r : List ℕ} {b n m : ℕ} {s : List ℕ} → Releases r 
 releases_sound (S.no_size x) z = z
 releases_sound (S.unsound x y) z = z
 releases_sound (S.not_out k w x y) z = z
-releases_sound {r} {b} (S.back k w x y) z = back_sound r b k x y
+releases_sound {r} {b} (S.released k w x y) z = back_sound r b k x y
