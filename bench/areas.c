@@ -42,10 +42,10 @@ static void fill(uint32_t end, uint32_t power, uint32_t step)
         record[base / SIXTEEN] = (uint8_t)power;
 }
 
-static void every_second(void) { fill(CC100_KEPT, SMALLEST_POWER, 2 * SIXTEEN); }
-static void lower_half(void) { fill(CC100_KEPT / 2, SMALLEST_POWER, SIXTEEN); }
-static void full_of_smallest(void) { fill(CC100_KEPT, SMALLEST_POWER, SIXTEEN); }
-static void full_of_largest(void) { fill(CC100_KEPT, LARGEST_POWER, 1u << LARGEST_POWER); }
+static void every_second(void) { fill(CC100_KEEPER_MEMORY, SMALLEST_POWER, 2 * SIXTEEN); }
+static void lower_half(void) { fill(CC100_KEEPER_MEMORY / 2, SMALLEST_POWER, SIXTEEN); }
+static void full_of_smallest(void) { fill(CC100_KEEPER_MEMORY, SMALLEST_POWER, SIXTEEN); }
+static void full_of_largest(void) { fill(CC100_KEEPER_MEMORY, LARGEST_POWER, 1u << LARGEST_POWER); }
 
 /* Code and data of modules as a server has them, 64 to 16,384 bytes each, some of them gone. */
 static void typical(void)

@@ -87,7 +87,7 @@ INLINE uint32_t release(passer *sound, uint8_t *record, size_t record_length, ui
         return CC100_REFUSED_CODE_SIZE;
     if (record_length != CC100_RECORD_LENGTH || !sound(record, &p))
         return CC100_REFUSED_RECORD;
-    if (base % SMALLEST || base >= CC100_KEPT || record[base / SMALLEST] != power_of(size))
+    if (base % SMALLEST || base >= CC100_KEEPER_MEMORY || record[base / SMALLEST] != power_of(size))
         return CC100_REFUSED_RECORD;
     record[base / SMALLEST] = 0;
     return CC100_DONE;

@@ -134,7 +134,7 @@ static void print_picture(const struct record *r)
 static void print_totals(const struct options *o, const struct record *r)
 {
     struct totals t = totals_of(r);
-    uint32_t left = CC100_KEPT - t.out;
+    uint32_t left = CC100_KEEPER_MEMORY - t.out;
     if (o->json) {
         print_event("record", r->path);
         printf(",\"areas\":%" PRIu32 ",\"out\":%" PRIu32 ",\"free\":%" PRIu32 ",\"largest\":%" PRIu32 "}\n", t.areas, t.out, left, t.largest);

@@ -184,9 +184,9 @@ static void describe_length(const struct record *r, char *text, size_t size)
 /* What is out at the base of an area that was handed back, where the record is sound. */
 static void describe_base(const struct record *r, uint32_t base, char *text, size_t size)
 {
-    uint32_t index = base / SIXTEEN, outer = base < CC100_KEPT ? covering(r, index) : NONE;
-    if (base >= CC100_KEPT)
-        snprintf(text, size, "0x%08" PRIx32 " is past the memory, which ends before 0x%08x.", base, CC100_KEPT);
+    uint32_t index = base / SIXTEEN, outer = base < CC100_KEEPER_MEMORY ? covering(r, index) : NONE;
+    if (base >= CC100_KEEPER_MEMORY)
+        snprintf(text, size, "0x%08" PRIx32 " is past the memory, which ends before 0x%08x.", base, CC100_KEEPER_MEMORY);
     else if (base % SIXTEEN != 0)
         snprintf(text, size, "0x%08" PRIx32 " is no multiple of %u, and so the base of no area.", base, SIXTEEN);
     else if (r->bytes[index] != 0)
@@ -201,7 +201,7 @@ static void describe_base(const struct record *r, uint32_t base, char *text, siz
 static void describe_space(const struct record *r, char *text, size_t size)
 {
     struct totals t = totals_of(r);
-    int length = snprintf(text, size, "%" PRIu32 " bytes are free", CC100_KEPT - t.out);
+    int length = snprintf(text, size, "%" PRIu32 " bytes are free", CC100_KEEPER_MEMORY - t.out);
     if (t.largest != 0)
         snprintf(text + length, size - (size_t)length, "; the largest area that there is a base for has %" PRIu32 " bytes.", t.largest);
     else

@@ -177,7 +177,7 @@ static void gaps(void)
 static void last_bases(void)
 {
     for (uint32_t power = SMALLEST_POWER; power <= LARGEST_POWER; power++) {
-        uint32_t size = 1u << power, last = CC100_KEPT - size;
+        uint32_t size = 1u << power, last = CC100_KEEPER_MEMORY - size;
         empty();
         fill(0, last, power);
         expect_given("the last base", size, last);
@@ -194,12 +194,12 @@ static void last_bases(void)
 static void spread(void)
 {
     empty();
-    for (uint32_t base = 0; base < CC100_KEPT; base += LARGEST)
+    for (uint32_t base = 0; base < CC100_KEEPER_MEMORY; base += LARGEST)
         put(base + LARGEST - SMALLEST, SMALLEST_POWER);
     expect_not_given("16 out in each 65,536", LARGEST, CC100_REFUSED_NO_SPACE);
     expect_given("16 out in each 65,536", LARGEST / 2, 0);
-    expect_taken("the last of them", CC100_KEPT - SMALLEST, SMALLEST);
-    expect_given("the last of them back", LARGEST, CC100_KEPT - LARGEST);
+    expect_taken("the last of them", CC100_KEEPER_MEMORY - SMALLEST, SMALLEST);
+    expect_given("the last of them back", LARGEST, CC100_KEEPER_MEMORY - LARGEST);
 }
 
 /* 65,536 areas of 16 by 65,536 calls, each on what the one before it left; then every sixteenth is handed back. */
@@ -242,7 +242,7 @@ static void expect_wrong_area(const char *what, uint32_t address, uint32_t byte)
     put(address, byte);
     expect_unsound(what, LENGTH);
     empty();
-    fill(0, CC100_KEPT, SMALLEST_POWER);
+    fill(0, CC100_KEEPER_MEMORY, SMALLEST_POWER);
     put(address, byte);
     expect_unsound(what, LENGTH);
 }
@@ -252,11 +252,11 @@ static void wrong_areas(void)
 {
     for (uint32_t byte = 1; byte <= 255; byte++)
         if (byte < SMALLEST_POWER || byte > LARGEST_POWER)
-            expect_wrong_area("the power of no size", byte % 2 ? 0 : CC100_KEPT - SMALLEST, byte);
+            expect_wrong_area("the power of no size", byte % 2 ? 0 : CC100_KEEPER_MEMORY - SMALLEST, byte);
     for (uint32_t power = SMALLEST_POWER + 1; power <= LARGEST_POWER; power++) {
         expect_wrong_area("a base that is no multiple", SMALLEST, power);
         expect_wrong_area("a base that is half a multiple", (1u << power) / 2, power);
-        expect_wrong_area("past the end", CC100_KEPT - SMALLEST, power);
+        expect_wrong_area("past the end", CC100_KEEPER_MEMORY - SMALLEST, power);
     }
 }
 
@@ -305,9 +305,9 @@ static void checked(void)
         expect_given("code, behind 16", size, code);
         expect_given("data", size, data);
         calling("areas of %u as code and data", (unsigned)size);
-        make_quiet(&m, (struct layout){CC100_KEPT, code, size, data, size});
+        make_quiet(&m, (struct layout){CC100_KEEPER_MEMORY, code, size, data, size});
         expect_accepted(&m);
-        make_quiet(&m, (struct layout){CC100_KEPT, data, size, code, size});
+        make_quiet(&m, (struct layout){CC100_KEEPER_MEMORY, data, size, code, size});
         expect_accepted(&m);
     }
 }

@@ -97,11 +97,17 @@ extern "C" {
 #define CC100_CAUSE 156u          /* control register 13 */
 #define CC100_RETURN_ADDRESS 160u /* control register 14 */
 
-/* The keeper gives areas of CC100_KEPT bytes of memory, from address 0 up, and its record has a byte for each 16 of them. A byte that is not 0 is
+/* The keeper gives areas of CC100_KEEPER_MEMORY bytes of memory, from address 0 up, and its record has a byte for each 16 of them. A byte that is not 0 is
    an area out: its base is 16 times the byte's index, its size 2 to the power of the byte. So a record of zeros has no area out. A record is
    sound where it has CC100_RECORD_LENGTH bytes and of every area out the size is a power of two from 16 to 65,536, the base is a multiple of the
-   size, and the area lies inside the CC100_KEPT bytes and overlaps no other. */
-#define CC100_KEPT 1048576u
+   size, and the area lies inside the CC100_KEEPER_MEMORY bytes and overlaps no other.
+
+   Proved of every list of cc100_allocate and cc100_release on a record of zeros, each call with the record that the last one left: the areas out are
+   those that calls gave and none took back, and no two of them overlap. Two of them, one for code and one for data, are a layout that breaks none of
+   the checker's rules 1 to 6 where memory has CC100_KEEPER_MEMORY bytes or more.
+
+   Sizes and bases are 32 bits: a caller that has more tests them before they are cut. A record is lent to one call at a time. */
+#define CC100_KEEPER_MEMORY 1048576u
 #define CC100_RECORD_LENGTH 65536u
 
 /* The bit of the status that is the current mode: 1 user, 0 kernel. */
@@ -214,7 +220,7 @@ cc100_written cc100_write(uint32_t kind, uint32_t rs, uint32_t rt, uint32_t rd, 
    Refuses, in this order: CC100_REFUSED_CODE_SIZE, a size that is not a power of two from 16 to 65,536; CC100_REFUSED_RECORD, a record that is
    not sound; CC100_REFUSED_NO_SPACE, exactly where a sound record has no such base.
    Answers CC100_DONE and the base, and leaves the record as it was but for the byte of that base, which becomes the power of the size. As
-   an area for code or for data it breaks none of the checker's rules 2 to 5, in every memory of CC100_KEPT bytes or more. To give an area and
+   an area for code or for data it breaks none of the checker's rules 2 to 5, in every memory of CC100_KEEPER_MEMORY bytes or more. To give an area and
    take it back leaves the record byte for byte as it was. */
 cc100_allocated cc100_allocate(uint8_t *record, size_t record_length, uint32_t size);
 

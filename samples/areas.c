@@ -28,7 +28,7 @@ struct module {
 };
 
 /* The keeper's record, zeros at first, and the memory that it is the record of. */
-static uint8_t record[CC100_RECORD_LENGTH], memory[CC100_KEPT];
+static uint8_t record[CC100_RECORD_LENGTH], memory[CC100_KEEPER_MEMORY];
 
 /* Rows of quantity, cost, price and margin, which the modules write. */
 static const int32_t table[DATA_SIZE / 4] = {240, 835, 1250, 0, 96, 1180, 980, 0, 500, 3420, 4999, 0, 1200, 207, 315, 0};

@@ -30,7 +30,7 @@ static uint32_t any_size(void)
     case 0: return PICK(wrong);
     case 1: return right_size() - 1 + 2 * below(2);
     case 2: return 1u << below(32);
-    case 3: return random_value(CC100_KEPT);
+    case 3: return random_value(CC100_KEEPER_MEMORY);
     default: return right_size();
     }
 }
@@ -54,9 +54,9 @@ static struct area handed_back(struct area out, uint32_t way)
     case 8: return (struct area){out.base - 16, out.size};
     case 9: return (struct area){out.base + out.size, out.size};
     case 10: return (struct area){out.base - out.size, out.size};
-    case 11: return (struct area){out.base + CC100_KEPT * (1 + below(4095)), out.size};
+    case 11: return (struct area){out.base + CC100_KEEPER_MEMORY * (1 + below(4095)), out.size};
     case 12: return (struct area){0xFFFFFFFFu - 15 * below(2), out.size};
-    case 13: return (struct area){random_value(CC100_KEPT), any_size()};
+    case 13: return (struct area){random_value(CC100_KEEPER_MEMORY), any_size()};
     default: return out;
     }
 }
@@ -178,7 +178,7 @@ static void give_in_list(uint32_t size)
         return;
     same_number("areas out that it overlaps", 0, overlapping(a));
     same_number("its base by its size", 0, a.base % size);
-    same_number("it is inside", 1, a.base + (uint64_t)size <= CC100_KEPT);
+    same_number("it is inside", 1, a.base + (uint64_t)size <= CC100_KEEPER_MEMORY);
     model.areas[model.count++] = a;
     if (model.count > counts.most_out)
         counts.most_out = model.count;
