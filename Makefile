@@ -23,10 +23,10 @@ VERDICT = target/bin/verdict
 # The calls, behind cc100_.
 EXPORTED = check check_placed check_straight run step resume read write allocate release
 # The libraries for C that they are in. Each is compiled by itself, so that what two calls share is inlined into both, and begins a page, so that
-# its speed does not hang on where a host's linker puts it. Four begin some bytes into their page, where they are fastest (docs/DECISIONS.md, Pages).
+# its speed does not hang on where a host's linker puts it. Five begin some bytes into their page, where they are fastest (docs/DECISIONS.md, Pages).
 CALLS = cc100_instruction_c cc100_step_c cc100_run cc100_resume cc100_check cc100_check_placed cc100_check_straight cc100_allocate \
     cc100_release
-BEGUN = cc100_run:28 cc100_check:16 cc100_check_straight:12 cc100_release:4
+BEGUN = cc100_run:28 cc100_check:16 cc100_check_straight:12 cc100_allocate:28 cc100_release:4
 PAGE = 4096
 PLAIN = bench/plain_read.c bench/plain_step.c bench/plain_check.c bench/plain_areas.c
 TIMED = bench/timing.c $(PLAIN)

@@ -11,10 +11,9 @@ use lib.Dec.{eqb, ltb}
 use lib.ListN.{length}
 use borrow.Author.Tests.{ltb-true, ltb-false, eqb-true, eqb-false}
 use Rattle.std.specs.Prelude.{Some, None, slice_index}
-use Rattle.word.proofs.Choice.{by_test}
 use Rattle.allocator.specs.declared.pass.Pass.{Pass}
 use Rattle.allocator.specs.Record.{Area, area, size_of, end_of, Apart, IsExponent, IsSize, Out, Sound, Free, memory_size}
-use Rattle.allocator.specs.Pass.{rounded, taken, looked, Before, Seen, Known, Passed}
+use Rattle.allocator.specs.Pass.{rounded, taken, Before, Seen, Known, Passed}
 use Rattle.allocator.proofs.Areas.{others, in_order}
 use Rattle.allocator.proofs.Multiples.{further, rounded_multiple, rounded_least, rounded_most, kept_multiple, power_some}
 
@@ -185,7 +184,8 @@ module _ (p : Pass) (x j : ℕ) where
           g (omega (arith, ltb-false j 4 u)) (omega (arith, ltb-false 16 j v)) (eqb-true (x % 2 ^ j) 0 w) (omega (arith, ltb-false x p.end z))
 
 module _ (r : List ℕ) (k n i j : ℕ) (p : Pass) (w : IsSize k n) (l : length r ≡ 65536) (h : i < 65536) where
-  known_area : Seen r k (16 * i) p → slice_index r i ≡ j → ¬ (j ≡ 0) → Known r k (16 * (i + 1)) (taken n p (16 * i) j)
+  -- with the area that begins at the next byte, and where none does
+  pub known_area : Seen r k (16 * i) p → slice_index r i ≡ j → ¬ (j ≡ 0) → Known r k (16 * (i + 1)) (taken n p (16 * i) j)
   unfolding taken
   known_area s b z =
       let x = 16 * i in
@@ -200,7 +200,7 @@ module _ (r : List ℕ) (k n i j : ℕ) (p : Pass) (w : IsSize k n) (l : length 
       (unsound_next r k x j p u m c o s)
       (λ f g a t. rw (sym v) (seen_next r k x j p u m c o s (omega (arith, h)) w.0 (record { least = f; most = g; aligned = a; after = t; end_is = refl; base_is = refl }))))
 
-  known_none : Seen r k (16 * i) p → slice_index r i ≡ 0 → Seen r k (16 * (i + 1)) p
+  pub known_none : Seen r k (16 * i) p → slice_index r i ≡ 0 → Seen r k (16 * (i + 1)) p
   known_none s b =
       skipped r k (16 * i) (16 * (i + 1)) p (omega arith)
       (λ a f. elim (dec_lt a.base (16 * i)) [
@@ -210,12 +210,6 @@ module _ (r : List ℕ) (k n i j : ℕ) (p : Pass) (w : IsSize k n) (l : length 
             absurd (omega (arith, z, f.0.1.1.0, f.0.1.1.1)))
       ])
       s
-
-  -- with the byte of the next 16 bytes
-  pub known_next : Seen r k (16 * i) p → slice_index r i ≡ j → Known r k (16 * (i + 1)) (looked n p (16 * i) j)
-  unfolding looked
-  known_next s b =
-      by_test (Known r k (16 * (i + 1))) (eqb j 0) (λ e. known_none s (b ∙ eqb-true j 0 e)) (λ e. known_area s b (eqb-false j 0 e))
 
 pub seen_begin : (r : List ℕ) (k : ℕ) → Seen r k 0 (record { end = 0; base = 0 })
 seen_begin r k =

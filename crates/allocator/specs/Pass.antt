@@ -21,10 +21,6 @@ taken n p at j =
     cond (ltb j 4 || ltb 16 j || not (eqb (at % 2 ^ j) 0) || ltb at p.end) None
     (Some (record { end = at + 2 ^ j; base = cond (ltb at (p.base + n)) (rounded n (at + 2 ^ j)) p.base }))
 
--- the byte for the 16 bytes at `at`: an area begins there, or none
-unfoldable pub looked : ℕ → Pass → ℕ → ℕ → Option Pass
-looked n p at j = cond (eqb j 0) (Some p) (taken n p at j)
-
 -- of the areas out that begin before address x
 abbrev pub Before : List ℕ → ℕ → Area → Type 0
 Before r x a = Out r a × (a.base < x)

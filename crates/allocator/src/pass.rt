@@ -61,22 +61,6 @@ impl Pass {
         Some(Pass { end, base })
     }
 
-    // The byte for the 16 bytes at address `at` is seen next.
-    #[tactic(auto, unfolding(crate::specs::Pass::looked))]
-    fn next(self, at: u32, byte: u8, size: u32) -> Option<Pass>
-        requires power { is_power_of_two size ≡ true }
-        requires most { size ≤ 65536 }
-        requires place { at < memory_size }
-        requires base { self.base ≤ memory_size }
-        ensures { result ≡ Spec.looked size self at byte }
-    {
-        if byte == 0 {
-            Some(self)
-        } else {
-            self.take(at, byte, size)
-        }
-    }
-
     // The eight bytes from `from` on are seen next.
     #[tactic(auto, using(crate::proofs::Multiples::size_tested, crate::proofs::Multiples::size_most))]
     fn eight(self, bytes: &[u8], from: usize, size: u32) -> Option<Pass>
@@ -88,7 +72,9 @@ impl Pass {
     {
         let mut seen = self;
         for at in from..from + 8 {
-            seen = seen.next(16 * at as u32, bytes[at], size)?;
+            if bytes[at] != 0 {
+                seen = seen.take(16 * at as u32, bytes[at], size)?;
+            }
         }
         Some(seen)
     }
