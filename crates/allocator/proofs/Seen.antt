@@ -5,7 +5,6 @@ use mathlib.Core.Bool.{Bool, true, false, not, cond, ◌||◌}
 use mathlib.Core.Logic.{◌⊎◌, inl, inr, ⊎_elim}
 use mathlib.Core.List.{List}
 use native.Mathlib.Omega.{arith}
-use native.Mathlib.Nat.{zero-mod}
 use native.Mathlib.Decide.{dec_lt}
 use lib.Dec.{eqb, ltb}
 use lib.ListN.{length}
@@ -68,9 +67,6 @@ module _ (r : List ℕ) (k x j : ℕ) (p : Pass) (u : x % 16 ≡ 0) (l : x / 16 
 
     weak : {a : Area} → Before r x a → Before r (x + 16) a
     weak b = (b.0, omega (arith, b.1))
-
-    length_some : 0 < 2 ^ j
-    length_some = power_some j
 
     ends : (a : Area) → Before r (x + 16) a → end_of a ≤ q.end
     ends =
@@ -210,21 +206,6 @@ module _ (r : List ℕ) (k n i j : ℕ) (p : Pass) (w : IsSize k n) (l : length 
             absurd (omega (arith, z, f.0.1.1.0, f.0.1.1.1)))
       ])
       s
-
-pub seen_begin : (r : List ℕ) (k : ℕ) → Seen r k 0 (record { end = 0; base = 0 })
-seen_begin r k =
-    record {
-      sizes = λ a b. absurd (omega (arith, b.1));
-      bases = λ a b. absurd (omega (arith, b.1));
-      apart = λ a b m n. absurd (omega (arith, m.1));
-      ends = λ a b. absurd (omega (arith, b.1));
-      attained = inl refl;
-      multiple = zero-mod (2 ^ k);
-      free = λ a b. absurd (omega (arith, b.1));
-      lower = λ b m l. absurd (omega (arith, l));
-      end_most = omega arith;
-      base_most = omega arith;
-    }
 
 -- ---- at the end
 
