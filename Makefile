@@ -6,7 +6,7 @@
 # make host-test: the calls from C and the verdict program, tested.
 # make command-test: the command, plain and under the address and undefined-behaviour sanitizers, and its listing beside GNU objdump's.
 # make install-test: an installation, and README's first example and samples/areas.c compiled with it.
-# make samples-test: the samples that have a source, assembled anew and compared.
+# make samples-test: the samples that have a source, assembled anew and compared, and the assembler's masks.
 # make expected-test: the stored outputs of the programs, compared with the second emulator. make expected: writes them anew.
 # make mips-test: QEMU's results, compared with the product's.
 # make program-test: a compiled C program on the product, its figures beside those that the same C gives natively.
@@ -14,7 +14,7 @@
 # make bench: speed beside plain C and, where it is installed, Unicorn. make bench BEFORE=FILE: beside another archive too, whose calls have the
 # same arguments and answers.
 SHELL = /bin/bash
-VERSION = 1.7
+VERSION = 1.8
 PREFIX = /usr/local
 CC = cc
 CFLAGS = -O2 -Wall -Wextra -Werror -Iinclude -Ibench
@@ -26,7 +26,7 @@ EXPORTED = check check_placed check_straight run step resume read write allocate
 # its speed does not hang on where a host's linker puts it. Five begin some bytes into their page, where they are fastest (docs/DECISIONS.md, Pages).
 CALLS = cc100_instruction_c cc100_step_c cc100_run cc100_resume cc100_check cc100_check_placed cc100_check_straight cc100_allocate \
     cc100_release
-BEGUN = cc100_run:28 cc100_check:16 cc100_check_straight:12 cc100_allocate:28 cc100_release:4
+BEGUN = cc100_run:28 cc100_check:24 cc100_check_straight:4 cc100_allocate:28 cc100_release:4
 PAGE = 4096
 PLAIN = bench/plain_read.c bench/plain_step.c bench/plain_check.c bench/plain_areas.c
 TIMED = bench/timing.c $(PLAIN)
@@ -36,7 +36,7 @@ UNICORN = $(shell pkg-config --exists unicorn 2> /dev/null && echo -DUNICORN ben
 HAS = $(if $(shell nm $(BEFORE) | grep -w cc100_$(1)),$(2))
 OTHER = $(if $(BEFORE),-DBEFORE $(call HAS,check_straight,-DBEFORE_STRAIGHT) $(call HAS,allocate,-DBEFORE_AREAS) target/bench/before.a)
 # The samples that have a source.
-ASSEMBLED = m margin totals forgotten
+ASSEMBLED = m margin totals forgotten holes
 EMULATOR = $(wildcard tests/emulator/*.c)
 # The programs whose input and output are stored.
 STORED = vectors steps listing verdict
@@ -119,12 +119,13 @@ command-test: command $(VERDICT)
 install-test:
 	@tests/install.sh $(VERSION) $(abspath $(ARCHIVE) $(VERDICT))
 
-samples-test:
+samples-test: command
 	@mkdir -p target/tests
 	@for s in $(ASSEMBLED); do \
 	    python3 samples/assemble.py samples/$$s.asm > target/tests/$$s.module && cmp samples/$$s.module target/tests/$$s.module || exit 1; \
 	done
 	@echo "samples: $(words $(ASSEMBLED)) modules are as assembled from their sources"
+	@python3 tests/assembler.py target/bin/cc100
 
 target/tests/expected: tests/expected.c $(EMULATOR) $(wildcard tests/emulator/*.h)
 	@mkdir -p target/tests

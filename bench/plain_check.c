@@ -112,15 +112,16 @@ INLINE int guarded(const struct module *m, uint32_t i, uint32_t r, uint32_t base
     return (andi & 0xFC1F0000) == (0x30000000 | r << 16) && word(m, i - 1) == (0x25 | r << 21 | base << 16 | r << 11);
 }
 
-/* An access, tried with 12 and 22. */
+/* An access, tried with 12, 22 and 25. A sum of mask and width is never 0. */
 INLINE uint32_t access(const struct module *m, uint32_t i, uint32_t w, uint32_t width)
 {
     uint32_t mask, offset = VALUE;
     if (!guarded(m, i, RS, DATA, &mask))
         return CC100_REFUSED_ACCESS;
-    if (offset > 0x7FFF || ((mask | offset) & (width - 1)) || mask + offset + width > m->data_size)
+    uint32_t sum = mask + width;
+    if (offset > 0x7FFF || ((mask | offset) & (width - 1)) || sum + offset > m->data_size)
         return CC100_REFUSED_MASK;
-    return CC100_DONE;
+    return sum & (sum - 1) ? CC100_REFUSED_MASK_HOLE : CC100_DONE;
 }
 
 /* JR and JALR, tried with 13, 14 and 20. */
@@ -176,7 +177,7 @@ INLINE uint32_t control(uint32_t w)
     return CC100_REFUSED_NO_INSTRUCTION;
 }
 
-/* The first of 9, 11, 12, 22, 13 to 15 and 20 that a word of no ordinary form breaks, or 0; or 8, for a word of opcode 16. */
+/* The first of 9, 11, 12, 22, 25, 13 to 15 and 20 that a word of no ordinary form breaks, or 0; or 8, for a word of opcode 16. */
 INLINE uint32_t broken(const struct module *m, uint32_t i, uint32_t w, enum form form, int after)
 {
     switch (form) {
@@ -193,6 +194,9 @@ INLINE uint32_t broken(const struct module *m, uint32_t i, uint32_t w, enum form
     default: return CC100_DONE;
     }
 }
+
+/* 22 and 25 are placed at the guard's ANDI, two words before the access. */
+INLINE int names_andi(uint32_t number) { return number == CC100_REFUSED_MASK || number == CC100_REFUSED_MASK_HOLE; }
 
 INLINE struct cc100_verdict made(uint32_t number, uint32_t place)
 {
@@ -219,7 +223,7 @@ INLINE struct cc100_verdict words(const struct module *m)
         if (e->form == ORDINARY)
             continue;
         if ((number = broken(m, i, w, e->form, i == slot)))
-            return made(number, number == CC100_REFUSED_MASK ? i - 2 : i); /* 22 names the guard's ANDI */
+            return made(number, names_andi(number) ? i - 2 : i);
         if (e->form >= BRANCH)
             slot = i + 1;
     }

@@ -98,7 +98,7 @@ struct refusal {
 struct exit_name {
     const char *name, *when;
 };
-#define LAST_REFUSAL 24u
+#define LAST_REFUSAL 25u
 #define FIRST_EXIT CC100_EXIT_INTEGER_OVERFLOW
 #define LAST_EXIT CC100_EXIT_STOP_CORES
 const struct refusal *refusal_of(uint32_t number); /* NULL where there is none */
@@ -132,7 +132,7 @@ void print_lines(const struct excerpt *e, uint32_t from, uint32_t to);
 /* Where a branch or jump of the module leads: a word's index, or CC100_NO_PLACE. */
 uint32_t target_index(const struct excerpt *e, uint32_t index);
 
-/* guards.c: what is wrong with the access and its guard that a verdict refuses by 12 or 22, and what to mend. Gives whether there is a text. */
+/* guards.c: what is wrong with the access and its guard that a verdict refuses by 12, 22 or 25, and what to mend. Gives whether there is a text. */
 #define MOST_FINDING 1024
 bool describe_guard(const struct excerpt *e, cc100_verdict v, char *text, size_t size);
 

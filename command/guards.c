@@ -1,4 +1,4 @@
-/* What is wrong with an access and its guard, for refusals 12 and 22: which word, what it must be, and what to mend. The number and the place
+/* What is wrong with an access and its guard, for refusals 12, 22 and 25: which word, what it must be, and what to mend. The number and the place
    are the checker's; what is said here only goes by them. */
 #include <inttypes.h>
 #include <stdarg.h>
@@ -126,22 +126,34 @@ static void say_missing(struct said *s, const struct guarded *g)
         say_words(s, g);
 }
 
-/* The numbers of a guard and its access, and which of them is wrong by itself. The sum has a meaning where it is not negative. */
+/* The numbers of a guard and its access, and which of them is wrong by itself, also where the number is 22 and 25 would come next. Mask and width
+   are the guard's reach. The sum has a meaning where it is not negative. */
 struct numbers {
-    uint32_t mask, width, size, sum;
+    uint32_t mask, width, reach, size, sum;
     int32_t offset;
-    bool mask_wrong, offset_wrong, sum_wrong;
+    bool hole, mask_wrong, offset_wrong, sum_wrong;
 };
 
 static struct numbers numbers_of(const struct guarded *g)
 {
     struct numbers n = {.mask = read_at(g->e, g->index - 2).value, .width = g->width, .size = g->e->layout.data_size};
     n.offset = (int32_t)(g->access.value ^ 0x8000u) - 0x8000;
-    n.mask_wrong = n.mask % n.width != 0 || n.mask + n.width > n.size;
+    n.reach = n.mask + n.width;
+    n.hole = (n.reach & (n.reach - 1)) != 0; /* so it is too where the mask is no multiple of the width */
+    n.mask_wrong = n.hole || n.reach > n.size;
     n.offset_wrong = n.offset < 0 || (uint32_t)n.offset % n.width != 0 || (uint32_t)n.offset + n.width > n.size;
-    n.sum = n.mask + (uint32_t)n.offset + n.width;
-    n.sum_wrong = n.mask + n.width + (int64_t)n.offset > n.size;
+    n.sum = n.reach + (uint32_t)n.offset;
+    n.sum_wrong = n.reach + (int64_t)n.offset > n.size;
     return n;
+}
+
+/* The largest power of two that a mask and this width can be in so many bytes, which are not fewer than the width. */
+static uint32_t largest_reach(uint32_t width, uint32_t bytes)
+{
+    uint32_t reach = width;
+    while (2 * reach <= bytes)
+        reach *= 2;
+    return reach;
 }
 
 static void say_broken_rules(struct said *s, const struct numbers *n)
@@ -155,14 +167,8 @@ static void say_broken_rules(struct said *s, const struct numbers *n)
     if (n->sum_wrong)
         say(s, " Mask, offset and width are %" PRIu32 " %c %" PRId32 " + %" PRIu32 " = %" PRIu32 ", and the data has %" PRIu32 " bytes.", n->mask,
             n->offset < 0 ? '-' : '+', n->offset < 0 ? -n->offset : n->offset, n->width, n->sum, n->size);
-}
-
-/* What a number must be: up to the largest that the other one leaves. */
-static void say_limit(struct said *s, uint32_t width, uint32_t most)
-{
-    if (width > 1)
-        say(s, "a multiple of %" PRIu32 ", ", width);
-    say(s, "at most 0x%" PRIx32, most);
+    if (n->hole && n->mask % n->width == 0)
+        say(s, " The mask has a hole too, which is refused by 25.");
 }
 
 /* Where the size rule alone is broken, a module may have been compiled for more data. */
@@ -171,36 +177,89 @@ static void say_larger_data(struct said *s, const struct numbers *n)
     uint32_t size = n->size;
     while (size < n->sum)
         size *= 2;
-    if (n->mask % n->width == 0 && size <= LARGEST_DATA)
+    if (!n->hole && size <= LARGEST_DATA)
         say(s, " With a data size of %" PRIu32 " it would fit as it is.", size);
+}
+
+static void say_both(struct said *s, const struct numbers *n)
+{
+    say(s, "change both, so that the mask is a power of two less %" PRIu32 ", the offset not negative", n->width);
+    if (n->width > 1)
+        say(s, " and a multiple of %" PRIu32, n->width);
+    say(s, ", and the three are at most %" PRIu32 ".", n->size);
+}
+
+/* What an offset or a mask must be: up to the largest that the other one leaves. */
+static void say_offset(struct said *s, const struct guarded *g, const struct numbers *n)
+{
+    say(s, "make the offset of word %" PRIu32 " ", g->index);
+    if (n->width > 1)
+        say(s, "a multiple of %" PRIu32 ", ", n->width);
+    say(s, "at most 0x%" PRIx32 " and not negative.", n->size - n->reach);
+}
+
+static void say_mask(struct said *s, const struct guarded *g, const struct numbers *n)
+{
+    say(s, "make the mask of word %" PRIu32 " a power of two less %" PRIu32 ", at most 0x%" PRIx32 ".", g->index - 2, n->width,
+        largest_reach(n->width, n->size - (uint32_t)n->offset) - n->width);
 }
 
 static void say_mend(struct said *s, const struct guarded *g, const struct numbers *n)
 {
     say(s, " To mend: ");
-    if (n->offset_wrong && n->mask_wrong) {
-        say(s, "change both, so that the offset is not negative and the three are at most %" PRIu32, n->size);
-        say(s, n->width > 1 ? ", mask and offset multiples of %" PRIu32 "." : ".", n->width);
-    } else if (n->offset_wrong) {
-        say(s, "make the offset of word %" PRIu32 " ", g->index);
-        say_limit(s, n->width, n->size - n->mask - n->width);
-        say(s, " and not negative.");
-    } else {
-        say(s, "make the mask of word %" PRIu32 " ", g->index - 2);
-        say_limit(s, n->width, n->size - (uint32_t)n->offset - n->width);
-        say(s, ".");
-    }
+    if (n->offset_wrong && n->mask_wrong)
+        say_both(s, n);
+    else if (n->offset_wrong)
+        say_offset(s, g, n);
+    else
+        say_mask(s, g, n);
     if (n->sum_wrong && n->offset >= 0 && n->offset % (int32_t)n->width == 0)
         say_larger_data(s, n);
+}
+
+static void say_numbers(struct said *s, const struct guarded *g, const struct numbers *n)
+{
+    say(s, "Word %" PRIu32 ", with the mask 0x%" PRIx32 ", guards the %s at word %" PRIu32 ", with the offset %" PRId32 " and a width of %" PRIu32
+        ".", g->index - 2, n->mask, g->name, g->index, n->offset, n->width);
 }
 
 static void say_wrong_numbers(struct said *s, const struct guarded *g)
 {
     struct numbers n = numbers_of(g);
-    say(s, "Word %" PRIu32 ", with the mask 0x%" PRIx32 ", guards the %s at word %" PRIu32 ", with the offset %" PRId32 " and a width of %" PRIu32
-        ".", g->index - 2, n.mask, g->name, g->index, n.offset, n.width);
+    say_numbers(s, g, &n);
     say_broken_rules(s, &n);
     say_mend(s, g, &n);
+}
+
+/* In binary, from its highest one on. Gives how many ones it has. */
+static uint32_t say_bits(struct said *s, uint32_t number)
+{
+    uint32_t ones = 0;
+    for (uint32_t bit = largest_reach(1, number); bit > 0; bit /= 2) {
+        say(s, "%d", (number & bit) != 0);
+        ones += (number & bit) != 0;
+    }
+    return ones;
+}
+
+/* 25: the bits that the mask leaves out, two places that go to one cell by the lowest of them, and the masks without a hole next to it. The one
+   below always fits, as this mask does. */
+static void say_hole(struct said *s, const struct guarded *g)
+{
+    struct numbers n = numbers_of(g);
+    uint32_t below = largest_reach(1, n.reach), above = 2 * below, left_out = (above - n.width) & ~n.mask;
+    say_numbers(s, g, &n);
+    say(s, " Mask and width are %" PRIu32 " + %" PRIu32 " = %" PRIu32 ", which is ", n.mask, n.width, n.reach);
+    uint32_t ones = say_bits(s, n.reach);
+    say(s, " in binary, with %" PRIu32 " ones, and a power of two has one. The mask is ", ones);
+    say_bits(s, n.mask);
+    say(s, " and leaves 0x%" PRIx32 " out of a place, so that the places 0x0 and 0x%" PRIx32 " go to one cell, and two rows can too.", left_out,
+        left_out & -left_out);
+    say(s, " To mend: make the mask of word %" PRIu32 " 0x%" PRIx32, g->index - 2, below - n.width);
+    if (above + (uint32_t)n.offset <= n.size)
+        say(s, ", or 0x%" PRIx32 ", which leaves nothing out and fits the data.", above - n.width);
+    else
+        say(s, ". With this offset 0x%" PRIx32 ", which leaves nothing out, does not fit the data.", above - n.width);
 }
 
 bool describe_guard(const struct excerpt *e, cc100_verdict v, char *text, size_t size)
@@ -213,6 +272,9 @@ bool describe_guard(const struct excerpt *e, cc100_verdict v, char *text, size_t
     } else if (v.number == CC100_REFUSED_MASK) {
         struct guarded g = guarded_at(e, v.place + 2);
         say_wrong_numbers(&s, &g);
+    } else if (v.number == CC100_REFUSED_MASK_HOLE) {
+        struct guarded g = guarded_at(e, v.place + 2);
+        say_hole(&s, &g);
     }
     return *text != 0;
 }

@@ -63,8 +63,8 @@ static const struct refusal refusals[LAST_REFUSAL] = {
      "straight-through module is not asked for.", COMPILER},
     {"An access with its two guard words, whose mask or offset is wrong: it could reach outside the data. The word is the guard's ANDI, two before "
      "the access.", "module M with 0x31080040 at word 0",
-     "See that the data size is the one that the compiler was told. Compiler: the guard words are right; make the mask m and the access's offset "
-     "multiples of its width, the offset not negative, and m + offset + width at most the data size.", COMPILER},
+     "See that the data size is the one that the compiler was told. Compiler: the guard words are right; make the mask m a power of two less the "
+     "access's width, the offset a multiple of the width and not negative, and m + offset + width at most the data size.", COMPILER},
     {"There is no base for an area of the size: at every multiple of the size it would overlap an area that is out.", "16, after 65,536 areas of 16",
      "Take back areas that are no longer needed, or ask for a smaller one. cc100 areas RECORD show says how much is free, and the largest area that "
      "there is a base for.", KEEPER},
@@ -72,6 +72,10 @@ static const struct refusal refusals[LAST_REFUSAL] = {
      "the area handed back, by base and size, is not one that is out.", "an area handed back twice",
      "Hand an area back once, with the base and the size that it was given with. Where the record is wrong, cc100 areas RECORD show names the byte; "
      "docs/REFUSALS.md says how to mend it.", KEEPER},
+    {"An access with its two guard words, whose mask has a hole: mask and width are no power of two together, so that two rows can go to one cell. "
+     "The word is the guard's ANDI, two before the access.", "module M with 0x31080034 at word 0",
+     "Compiler: the guard words are right, and no access leaves the data; make the mask m a power of two less the access's width, which is the size "
+     "of a table less the width, and let the register hold the place of a cell in it, and not of a row.", COMPILER},
 };
 
 static const struct exit_name exits[LAST_EXIT - FIRST_EXIT + 1] = {

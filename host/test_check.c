@@ -1,5 +1,5 @@
-/* The checker's calls: document 01's refusal table and marked cases, C10 and C11 as ticket 5 of document 02 has them, the layout at its limits, and
-   the order of the rules. */
+/* The checker's calls: document 01's refusal table and marked cases, C10 and C11 as ticket 5 of document 02 has them, ticket 7's mask, the layout at
+   its limits, and the order of the rules. */
 #include <inttypes.h>
 #include <string.h>
 
@@ -19,6 +19,7 @@ static const struct example examples[] = {
     {"C9: M", {0x3108003C, 0x011A4025, 0xAD090000, 0x0000000C, 0, 0, 0x08004000, 0}, 0, NONE},
     {"C10: M, first word 0x3108003F", {0x3108003F, 0x011A4025, 0xAD090000, 0x0000000C, 0, 0, 0x08004000, 0}, 22, 0},
     {"C11: M, first word 0x31080040", {0x31080040, 0x011A4025, 0xAD090000, 0x0000000C, 0, 0, 0x08004000, 0}, 22, 0},
+    {"M, mask 0x34", {0x31080034, 0x011A4025, 0xAD090000, 0x0000000C, 0, 0, 0x08004000, 0}, 25, 0},
     {"C12: M, jump 0x08004001", {0x3108003C, 0x011A4025, 0xAD090000, 0x0000000C, 0, 0, 0x08004001, 0}, 15, 6},
     {"no instruction", {0xFFFFFFFF, 0, 0, 0, 0, 0, 0x08004000, 0}, 8, 0},
     {"RFE", {0x42000010, 0, 0, 0, 0, 0, 0x08004000, 0}, 9, 0},
@@ -30,11 +31,20 @@ static const struct example examples[] = {
     {"J to the last word", {0x08004007, 0, 0, 0, 0, 0, 0x08004000, 0}, 15, 0},
     {"J to the last word, in the last word but one", {0, 0, 0, 0, 0, 0, 0x08004007, 0}, 15, 6},
     {"eight zero words", {0, 0, 0, 0, 0, 0, 0, 0}, 16, 6},
-    /* two rules broken: the earlier word first, and of one word the lower number, but 22 after 12 */
+    /* two rules broken: the earlier word first, and of one word the lower number, but 22 and 25 after 12 */
     {"22, then 8", {0x3108003F, 0x011A4025, 0xAD090000, 0xFFFFFFFF, 0, 0, 0x08004000, 0}, 22, 0},
     {"8, then 22", {0xFFFFFFFF, 0x3108003F, 0x011A4025, 0xAD090000, 0, 0, 0x08004000, 0}, 8, 0},
     {"12, then 22", {0xAD090000, 0x3108003F, 0x011A4025, 0xAD090000, 0, 0, 0x08004000, 0}, 12, 0},
     {"22, then 12", {0x3108003F, 0x011A4025, 0xAD090000, 0xAD090000, 0, 0, 0x08004000, 0}, 22, 0},
+    {"mask 0x36: 22 and 25", {0x31080036, 0x011A4025, 0xAD090000, 0, 0, 0, 0x08004000, 0}, 22, 0},
+    {"mask 0x34 and offset 12: 22 and 25", {0x31080034, 0x011A4025, 0xAD09000C, 0, 0, 0, 0x08004000, 0}, 22, 0},
+    {"mask 0x34 with OR 8,8,27: 12 alone", {0x31080034, 0x011B4025, 0xAD090000, 0, 0, 0, 0x08004000, 0}, 12, 2},
+    {"25, then 8", {0x31080034, 0x011A4025, 0xAD090000, 0xFFFFFFFF, 0, 0, 0x08004000, 0}, 25, 0},
+    {"8, then 25", {0xFFFFFFFF, 0x31080034, 0x011A4025, 0xAD090000, 0, 0, 0x08004000, 0}, 8, 0},
+    {"12, then 25", {0xAD090000, 0x31080034, 0x011A4025, 0xAD090000, 0, 0, 0x08004000, 0}, 12, 0},
+    {"25, then 12", {0x31080034, 0x011A4025, 0xAD090000, 0xAD090000, 0, 0, 0x08004000, 0}, 25, 0},
+    {"25, then 22", {0x31080034, 0x011A4025, 0xAD090000, 0, 0, 0x3108003F, 0x011A4025, 0xAD090000}, 25, 0},
+    {"22, then 25", {0x3108003F, 0x011A4025, 0xAD090000, 0, 0, 0x31080034, 0x011A4025, 0xAD090000}, 22, 0},
     {"15, then 8", {0x08004007, 0xFFFFFFFF, 0, 0, 0, 0, 0x08004000, 0}, 15, 0},
     {"8 in the last word, and 16", {0, 0, 0, 0, 0, 0, 0, 0xFFFFFFFF}, 8, 7},
     {"9 in the last word, and 16", {0, 0, 0, 0, 0, 0, 0, 0x42000010}, 9, 7},
@@ -43,14 +53,17 @@ static const struct example examples[] = {
     {"LW 26,0(5): 10 and 12", {0x8CBA0000, 0, 0, 0, 0, 0, 0x08004000, 0}, 10, 0},
     {"SC 27,0(5): 10 and 12", {0xE0BB0000, 0, 0, 0, 0, 0, 0x08004000, 0}, 10, 0},
     {"LW 26,0(8) with mask 0x3F: 10 and 22", {0x3108003F, 0x011A4025, 0x8D1A0000, 0, 0, 0, 0x08004000, 0}, 10, 2},
+    {"LW 26,0(8) with mask 0x34: 10 and 25", {0x31080034, 0x011A4025, 0x8D1A0000, 0, 0, 0, 0x08004000, 0}, 10, 2},
     {"mask 0x3F with ORI for ANDI: 12 alone", {0x3508003F, 0x011A4025, 0xAD090000, 0, 0, 0, 0x08004000, 0}, 12, 2},
     {"22 in the last word, and 16", {0, 0, 0, 0, 0, 0x3108003F, 0x011A4025, 0xAD090000}, 22, 5},
+    {"25 in the last word, and 16", {0, 0, 0, 0, 0, 0x31080034, 0x011A4025, 0xAD090000}, 25, 5},
     {"JALR 5,5: 11 and 13", {0x00A02809, 0, 0, 0, 0, 0, 0x08004000, 0}, 11, 0},
     {"BLTZAL 31 after J and out of the code: 11, 14 and 15", {0x08004000, 0x07F07FFF, 0, 0, 0, 0, 0x08004000, 0}, 11, 1},
     {"JR after J: 13 and 14", {0x08004004, 0x00A00008, 0, 0, 0, 0, 0x08004000, 0}, 13, 1},
     {"JALR 31,5 after J: 13 and 14", {0x08004004, 0x00A0F809, 0, 0, 0, 0, 0x08004000, 0}, 13, 1},
     {"J to the last word after J: 14 and 15", {0x08004000, 0x08004007, 0, 0, 0, 0, 0x08004000, 0}, 14, 1},
     {"J to SW with mask 0x3F: 15 before 22", {0x08004006, 0, 0, 0, 0x3108003F, 0x011A4025, 0xAD090000, 0}, 15, 0},
+    {"J to SW with mask 0x34: 15 before 25", {0x08004006, 0, 0, 0, 0x31080034, 0x011A4025, 0xAD090000, 0}, 15, 0},
     {"J to SW without guard: 15 before 12", {0x08004004, 0, 0, 0, 0xAD090000, 0, 0x08004000, 0}, 15, 0},
 };
 

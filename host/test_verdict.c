@@ -58,11 +58,12 @@ struct example {
     const char *line;
 };
 
-/* Document 01's marked cases, and its refusal table from 8 on. */
+/* Document 01's marked cases and its refusal table from 8 on, and ticket 7's mask. */
 static const struct example examples[] = {
     {"M", {0x3108003C, 0x011A4025, 0xAD090000, 0x0000000C, 0, 0, JUMP, 0}, "accept 8\n"},
     {"C10", {0x3108003F, 0x011A4025, 0xAD090000, 0x0000000C, 0, 0, JUMP, 0}, "refuse 22 0\n"},
     {"C11", {0x31080040, 0x011A4025, 0xAD090000, 0x0000000C, 0, 0, JUMP, 0}, "refuse 22 0\n"},
+    {"mask 0x34", {0x31080034, 0x011A4025, 0xAD090000, 0x0000000C, 0, 0, JUMP, 0}, "refuse 25 0\n"},
     {"C12", {0x3108003C, 0x011A4025, 0xAD090000, 0x0000000C, 0, 0, 0x08004001, 0}, "refuse 15 6\n"},
     {"no instruction", {0xFFFFFFFF, 0, 0, 0, 0, 0, JUMP, 0}, "refuse 8 0\n"},
     {"RFE", {0x42000010, 0, 0, 0, 0, 0, JUMP, 0}, "refuse 9 0\n"},

@@ -1,4 +1,4 @@
-/* The checker's rules for words, 8 to 16 and 22, at their limits. */
+/* The checker's rules for words, 8 to 16, 22 and 25, at their limits. */
 #include <inttypes.h>
 
 #include "test.h"
@@ -72,6 +72,9 @@ static void every_kind(void)
             }
 }
 
+/* A mask that fits in front of a kind: it keeps 32 bytes of the data, or of the code two bundles. */
+static uint32_t fitting_mask(uint32_t kind) { return access_width(kind) ? 32 - (uint32_t)access_width(kind) : 16; }
+
 /* A guard before an access in the first bundle, in these words or one later. */
 static void put_access(struct layout l, uint32_t first, uint32_t kind, uint32_t mask, uint32_t offset)
 {
@@ -82,35 +85,37 @@ static void put_access(struct layout l, uint32_t first, uint32_t kind, uint32_t 
             mask, offset, l.data_size);
 }
 
-static void expect_access(struct layout l, uint32_t kind, uint32_t mask, uint32_t offset, int fits)
+static void expect_access(struct layout l, uint32_t kind, uint32_t mask, uint32_t offset, uint32_t number)
 {
     for (uint32_t first = 0; first < 2; first++) {
         put_access(l, first, kind, mask, offset);
-        expect_verdict(&m, fits ? CC100_DONE : CC100_REFUSED_MASK, fits ? CC100_NO_PLACE : first);
+        expect_verdict(&m, number, number ? first : CC100_NO_PLACE);
     }
 }
 
-/* Sums just at the data size and one step over it, by the mask, by the offset and by both. */
+/* Sums just at the data size and one step over it, by the mask, by the offset and by both; and masks with a hole, whose sums fit. */
 static void sums(uint32_t kind, uint32_t size)
 {
     uint32_t width = (uint32_t)access_width(kind), rest = size - width, half = size / 2;
     struct layout l = with_data(size);
     int above = size < 65536; /* a mask has 16 bits, and an offset 15 without its sign */
-    expect_access(l, kind, 0, 0, 1);
-    expect_access(l, kind, rest, 0, 1);
-    expect_access(l, kind, rest, width, 0);
-    expect_access(l, kind, rest, width * 2, 0);
+    expect_access(l, kind, 0, 0, 0);
+    expect_access(l, kind, rest, 0, 0);
+    expect_access(l, kind, rest, width, 22);
+    expect_access(l, kind, rest, width * 2, 22);
     if (above)
-        expect_access(l, kind, size, 0, 0);
+        expect_access(l, kind, size, 0, 22);
     if (above)
-        expect_access(l, kind, 0, rest, rest <= 0x7FFF);
+        expect_access(l, kind, 0, rest, rest <= 0x7FFF ? 0 : 22);
     if (above)
-        expect_access(l, kind, 0, size, 0);
+        expect_access(l, kind, 0, size, 22);
     if (half >= width) {
-        expect_access(l, kind, half, half - width, 1);
-        expect_access(l, kind, half - width, half, half <= 0x7FFF);
+        expect_access(l, kind, half, half - width, half == width ? 0 : 25);
+        expect_access(l, kind, half - width, half, half <= 0x7FFF ? 0 : 22);
     }
-    expect_access(l, kind, 0xFFFF / width * width, 0x7FFF / width * width, 0);
+    if (half > width)
+        expect_access(l, kind, rest - width, 0, 25);
+    expect_access(l, kind, 0xFFFF / width * width, 0x7FFF / width * width, 22);
 }
 
 /* Masks and offsets that are not multiples of the width, and offsets below zero. */
@@ -119,17 +124,19 @@ static void multiples(uint32_t kind)
     uint32_t width = (uint32_t)access_width(kind);
     struct layout l = with_data(65536);
     for (uint32_t i = 0; i < 8; i++) {
-        expect_access(usual, kind, i, 0, i % width == 0);
-        expect_access(usual, kind, 0, i, i % width == 0);
-        expect_access(usual, kind, i, (8 - i) % 8, i % width == 0);
-        expect_access(usual, kind, 32 + i, 8 - i, i % width == 0);
+        int multiple = i % width == 0, whole = i + width == 1 || i + width == 2 || i + width == 4 || i + width == 8;
+        expect_access(usual, kind, i, 0, !multiple ? 22 : whole ? 0 : 25);
+        expect_access(usual, kind, 0, i, multiple ? 0 : 22);
+        expect_access(usual, kind, i, (8 - i) % 8, !multiple ? 22 : whole ? 0 : 25);
+        expect_access(usual, kind, 32 + i, 8 - i, multiple ? 25 : 22);
     }
-    expect_access(usual, kind, 32, 0x10000 - width, 0);
-    expect_access(usual, kind, 32, 0xFFE0, 0);
-    expect_access(usual, kind, 32, 0x8000, 0);
-    expect_access(l, kind, 0, 0x8000, 0);
-    expect_access(l, kind, 0, 0x8000 - width, 1);
-    expect_access(l, kind, 0x8000, 0x10000 - width, 0);
+    expect_access(usual, kind, 32 - width, 0x10000 - width, 22);
+    expect_access(usual, kind, 32, 0x10000 - width, 22);
+    expect_access(usual, kind, 32, 0xFFE0, 22);
+    expect_access(usual, kind, 32, 0x8000, 22);
+    expect_access(l, kind, 0, 0x8000, 22);
+    expect_access(l, kind, 0, 0x8000 - width, 0);
+    expect_access(l, kind, 0x8000, 0x10000 - width, 22);
 }
 
 static void accesses(void)
@@ -165,8 +172,8 @@ static void guard_registers(void)
             for (int jump = 0; jump < 2; jump++) {
                 uint32_t number = r == 0 ? jump ? CC100_REFUSED_JUMP : CC100_REFUSED_ACCESS : CC100_DONE;
                 make_quiet(&m, usual);
-                put_guard(&m, 0, r, 16, jump ? CODE_REGISTER : DATA_REGISTER);
-                m.words[0] = word_of(ANDI, s, r, 0, 16);
+                put_guard(&m, 0, r, 0, jump ? CODE_REGISTER : DATA_REGISTER);
+                m.words[0] = word_of(ANDI, s, r, 0, fitting_mask(jump ? JR : LW));
                 m.words[2] = jump ? word_of(JR, r, 0, 0, 0) : word_of(LW, r, 9, 0, 0);
                 calling("%s, R %" PRIu32 ", S %" PRIu32, jump ? "JR" : "LW", r, s);
                 if (r == DATA_REGISTER || r == CODE_REGISTER)
@@ -179,7 +186,8 @@ static void guard_registers(void)
 /* Three words that are nearly a guard and LW 9,0(8), or JR 8. `base` is the register that the right guard has. */
 static void near_guards(uint32_t base, uint32_t word, uint32_t number)
 {
-    const uint32_t andi = word_of(ANDI, 4, 8, 0, 16), or = word_of(OR, 8, base, 8, 0), other = DATA_REGISTER + CODE_REGISTER - base;
+    const uint32_t mask = fitting_mask(base == DATA_REGISTER ? LW : JR), other = DATA_REGISTER + CODE_REGISTER - base;
+    const uint32_t andi = word_of(ANDI, 4, 8, 0, mask), or = word_of(OR, 8, base, 8, 0);
     const uint32_t nearly[][3] = {
         {andi, word_of(OR, base, 8, 8, 0), word},         /* OR 8,26,8 */
         {andi, word_of(OR, 8, other, 8, 0), word},        /* the base of the other area */
@@ -187,8 +195,8 @@ static void near_guards(uint32_t base, uint32_t word, uint32_t number)
         {andi, word_of(OR, 8, base, 7, 0), word},         /* OR into another register */
         {andi, word_of(OR, 7, base, 8, 0), word},         /* OR from another register */
         {andi, or ^ 1, word},                             /* NOR, XOR or ADDU */
-        {word_of(ANDI, 8, 7, 0, 16), or, word},           /* ANDI into another register */
-        {word_of(ORI, 4, 8, 0, 16), or, word},
+        {word_of(ANDI, 8, 7, 0, mask), or, word},         /* ANDI into another register */
+        {word_of(ORI, 4, 8, 0, mask), or, word},
         {or, andi, word}, {0, or, word}, {andi, 0, word}, {andi, andi, word}, {or, or, word}, {0, 0, word},
         {andi, or, word ^ 1u << 21},                      /* another register used: 9 */
         {andi, or, (word & ~RS) | base << 21},            /* the base itself used */
@@ -210,7 +218,7 @@ static void guard_places(uint32_t base, uint32_t word, uint32_t number)
             uint32_t at = first + 2 + between;
             int fits = between == 0 && first % 4 < 2;
             make_quiet(&m, with_code(64));
-            put_guard(&m, first, 8, 16, base);
+            put_guard(&m, first, 8, fitting_mask(base == DATA_REGISTER ? LW : JR), base);
             m.words[at] = word;
             calling("guard at word %" PRIu32 ", 0x%08" PRIX32 " at word %" PRIu32, first, word, at);
             if (at != 14)
@@ -223,7 +231,7 @@ static void register_used_twice(void)
 {
     for (uint32_t kind = 1; kind <= KINDS; kind++)
         if (access_width(kind)) {
-            put_access(usual, 0, kind, 16, 0);
+            put_access(usual, 0, kind, fitting_mask(kind), 0);
             m.words[2] = word_of(kind, 8, 8, 0, 0);
             expect_accepted(&m);
         }
@@ -279,12 +287,12 @@ static void slots(void)
 }
 
 /* Every target around the code, from word 4, where word 2 is guarded and word 7 the last. */
-static void targets(uint32_t kind, uint32_t guarded, uint32_t base)
+static void targets(uint32_t kind, uint32_t guarded, uint32_t mask, uint32_t base)
 {
     for (int target = -3; target < 12; target++) {
         int fits = target == 0 || (target >= 3 && target <= 6);
         make_quiet(&m, usual);
-        put_guard(&m, 0, 8, 16, base);
+        put_guard(&m, 0, 8, mask, base);
         m.words[2] = guarded;
         m.words[4] = to_word(kind, 4, (uint32_t)target);
         calling("kind %" PRIu32 " to word %d, 0x%08" PRIX32 " at word 2", kind, target, guarded);
@@ -299,9 +307,9 @@ static void every_target(void)
             continue;
         for (uint32_t access = 1; access <= KINDS; access++)
             if (access_width(access))
-                targets(kind, word_of(access, 8, 9, 0, 4), DATA_REGISTER);
-        targets(kind, word_of(JR, 8, 0, 0, 0), CODE_REGISTER);
-        targets(kind, word_of(JALR, 8, 0, 31, 0), CODE_REGISTER);
+                targets(kind, word_of(access, 8, 9, 0, 4), fitting_mask(access), DATA_REGISTER);
+        targets(kind, word_of(JR, 8, 0, 0, 0), fitting_mask(JR), CODE_REGISTER);
+        targets(kind, word_of(JALR, 8, 0, 31, 0), fitting_mask(JALR), CODE_REGISTER);
     }
 }
 

@@ -64,6 +64,7 @@ extern "C" {
 #define CC100_REFUSED_MASK 22u          /* an access with its guard words whose mask m or offset breaks a multiple, sign or size rule */
 #define CC100_REFUSED_NO_SPACE 23u      /* at every multiple of its size an area would overlap one that is out */
 #define CC100_REFUSED_RECORD 24u        /* the keeper's record has another length or is not sound, or an area handed back is not out: see below */
+#define CC100_REFUSED_MASK_HOLE 25u     /* an access with its guard words, whose mask plus width is not a power of two */
 
 #define CC100_NO_PLACE 0xFFFFFFFFu /* the place of a verdict that names no word, and the base of an area that is not given */
 
@@ -131,9 +132,9 @@ static inline void cc100_set_word(uint8_t *bytes, uint32_t word)
     bytes[3] = (uint8_t)(word >> 24);
 }
 
-/* What the checker says of a module: `number` is CC100_DONE, which accepts it, or a refusal, 1 to 16 or 22, and of a straight-through module also
-   20 or 21. `place` is the index of the word that 8 to 16 and 20 refuse; of 22 that of the guard's ANDI, two words before the access; and else
-   CC100_NO_PLACE. */
+/* What the checker says of a module: `number` is CC100_DONE, which accepts it, or a refusal, 1 to 16, 22 or 25, and of a straight-through module
+   also 20 or 21. `place` is the index of the word that 8 to 16 and 20 refuse; of 22 and 25 that of the guard's ANDI, two words before the access;
+   and else CC100_NO_PLACE. */
 typedef struct cc100_verdict {
     uint32_t number, place;
 } cc100_verdict;
@@ -170,8 +171,8 @@ typedef struct cc100_allocated {
 
 /* Checks a module before it is placed. `image` is its code, words little-endian. The layout is where it is to run: the memory's length, and
    the base and size of the areas for code and data; docs/REFUSALS.md says what each refusal means.
-   Refuses 1 to 7, in this order, by the layout and the image's length; then by the words from index 0 up, each tried with 8 to 12, 22 and 13 to
-   15 in this order; then 16, whose place is that of the last word but one. The image is only read. */
+   Refuses 1 to 7, in this order, by the layout and the image's length; then by the words from index 0 up, each tried with 8 to 12, 22, 25 and 13
+   to 15 in this order; then 16, whose place is that of the last word but one. The image is only read. */
 cc100_verdict cc100_check(uint64_t memory_length, uint32_t code_base, uint32_t code_size, uint32_t data_base, uint32_t data_size,
                           const uint8_t *image, size_t image_length);
 

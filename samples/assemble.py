@@ -7,16 +7,21 @@ A line has a label (a name and a colon), an instruction, or both; a comment goes
 document 004; registers and constants are numbers: ADD 8, 8, 2. The line after a branch or jump is its delay slot. A label is the target of
 a branch or jump, or a constant: its place in the code. These forms become what the checker asks for:
 
-    load.w T, OFFSET(R) mask M   ANDI R,R,M and OR R,R,26 and LW T,OFFSET(R), in one bundle; all loads and stores are like this
-    return R                     ANDI R,R,m and OR R,R,27 and JR R, in one bundle; m is the code size - 16
-    call LABEL                   JAL LABEL, where its return address begins a bundle: a guarded jump can reach no other words
-    call.r R                     ANDI R,R,m and OR R,R,27 and JALR 31,R, where its return address begins a bundle
-    bundle                       nothing, but what follows begins a bundle: for a label that a guarded jump is to reach
-    straight                     as the last line: the last bundle of a straight-through module, SYSCALL 0, NOP, J to the SYSCALL and NOP, at the
-                                 end of a power of two; a label before it is where that bundle starts, and branches can lead there
+    load.w T, OFFSET(R) table N   ANDI R,R,m and OR R,R,26 and LW T,OFFSET(R), in one bundle; all loads and stores are like this. R holds a place in
+                                  a table of N bytes that begins OFFSET bytes into the data, and m is N - 4, the table's size less the width;
+                                  without table N it is the whole data area
+    return R                      ANDI R,R,m and OR R,R,27 and JR R, in one bundle; m is the code size - 16
+    call LABEL                    JAL LABEL, where its return address begins a bundle: a guarded jump can reach no other words
+    call.r R                      ANDI R,R,m and OR R,R,27 and JALR 31,R, where its return address begins a bundle
+    bundle                        nothing, but what follows begins a bundle: for a label that a guarded jump is to reach
+    straight                      as the last line: the last bundle of a straight-through module, SYSCALL 0, NOP, J to the SYSCALL and NOP, at the
+                                  end of a power of two; a label before it is where that bundle starts, and branches can lead there
+
+Mask and width together have to be a power of two, so that no two places of a table go to one cell: N is one, and where no mask fits, the
+assembler says what is wrong. A cell at a place that is known is a table of its own, whose mask is 0: load.w T, 8(R) table 4.
 
 Where a form does not fit into its bundle, NOPs stand before it. A module that does not end by itself with a jump and its slot at a power of
-two is filled up with NOPs, and a jump to its first word. All other rules, such as the limits of a mask, are left to the checker.
+two is filled up with NOPs, and a jump to its first word. All other rules are left to the checker.
 """
 import collections
 import re
@@ -24,6 +29,7 @@ import struct
 import sys
 
 CODE_BASE = 0x10000  # J and JAL hold addresses
+DATA_SIZE = "64"  # of the whole data area, as a source writes it
 FIRST_WORD, LAST_BUNDLE, CODE_MASK = "first word", "last bundle", "code size - 16"  # labels that no source can have, for their spaces
 
 # For each letter of the table below: the lowest bit of the operand's field, and its lowest and highest value.
@@ -48,8 +54,10 @@ TABLE = {
 INSTRUCTIONS = {name: (operands, bits) for operands, names in TABLE.items() for name, bits in names.items()}
 JUMPS = {"J", "JAL", "JR", "JALR"}
 BRANCHES = JUMPS | {name for name, (operands, _) in INSTRUCTIONS.items() if "b" in operands}
+# The instruction of each form, and its width in bytes.
 ACCESSES = {
-    "load.b": "LB", "load.h": "LH", "load.w": "LW", "load.bu": "LBU", "load.hu": "LHU", "store.b": "SB", "store.h": "SH", "store.w": "SW",
+    "load.b": ("LB", 1), "load.h": ("LH", 2), "load.w": ("LW", 4), "load.bu": ("LBU", 1), "load.hu": ("LHU", 2), "store.b": ("SB", 1),
+    "store.h": ("SH", 2), "store.w": ("SW", 4),
 }
 Word = collections.namedtuple("Word", "line name operands")
 
@@ -63,28 +71,46 @@ def guarded(r, mask, base, *access_or_jump):
     return [("ANDI", r, r, mask), ("OR", r, r, base), access_or_jump]
 
 
-def plain(name):
-    return lambda *operands: [(name, *operands)]
-
-
-def access(name):
-    return lambda t, offset, r, mask: guarded(r, mask, "26", name, t, offset, r)
-
-
-# What a line can begin with: the number of its operands, where in a bundle its first word may stand, and the instructions that it becomes.
-LINES = {
-    **{name: (len(operands), (0, 1, 2, 3), plain(name)) for name, (operands, _) in INSTRUCTIONS.items()},
-    **{form: (4, (0, 1), access(name)) for form, name in ACCESSES.items()},
-    "return": (1, (0, 1), lambda r: guarded(r, CODE_MASK, "27", "JR", r)),
-    "call": (1, (2,), plain("JAL")),
-    "call.r": (1, (0,), lambda r: guarded(r, CODE_MASK, "27", "JALR", "31", r)),
-    "bundle": (0, (0,), lambda: []),
-    "straight": (0, (0,), lambda: [("SYSCALL", "0"), ("NOP",), ("J", LAST_BUNDLE), ("NOP",)]),
-}
-
-
 def power_of_two(number):
     return number & number - 1 == 0
+
+
+def number_of(line, text):
+    if not re.fullmatch(r"-?(0x[0-9A-Fa-f]+|[0-9]+)", text):
+        stop(line, "%s is no number" % text)
+    return int(text, 16 if "x" in text else 10)
+
+
+def mask_of(line, width, offset, size):
+    """The mask that keeps every place of a table, a multiple of the width: the table's size less the width."""
+    begins, length, data = number_of(line, offset), number_of(line, size), int(DATA_SIZE)
+    if length < width or not power_of_two(length):
+        stop(line, "no mask fits a table of %s bytes: with a width of %d its size has to be a power of two, and at least %d" % (size, width, width))
+    if begins < 0 or begins % width:
+        stop(line, "no table for a width of %d can begin at %s: that has to be a multiple of %d, and not negative" % (width, offset, width))
+    if begins + length > data:
+        stop(line, "no mask fits: a table of %s bytes that begins at %s ends outside the data, which has %d bytes" % (size, offset, data))
+    return str(length - width)
+
+
+def plain(name):
+    return lambda line, *operands: [(name, *operands)]
+
+
+def access(name, width):
+    return lambda line, t, offset, r, size=DATA_SIZE: guarded(r, mask_of(line, width, offset, size), "26", name, t, offset, r)
+
+
+# What a line can begin with: the least and the most operands, where in a bundle its first word may stand, and the instructions that it becomes.
+LINES = {
+    **{name: (len(operands), len(operands), (0, 1, 2, 3), plain(name)) for name, (operands, _) in INSTRUCTIONS.items()},
+    **{form: (3, 4, (0, 1), access(*instruction)) for form, instruction in ACCESSES.items()},
+    "return": (1, 1, (0, 1), lambda line, r: guarded(r, CODE_MASK, "27", "JR", r)),
+    "call": (1, 1, (2,), plain("JAL")),
+    "call.r": (1, 1, (0,), lambda line, r: guarded(r, CODE_MASK, "27", "JALR", "31", r)),
+    "bundle": (0, 0, (0,), lambda line: []),
+    "straight": (0, 0, (0,), lambda line: [("SYSCALL", "0"), ("NOP",), ("J", LAST_BUNDLE), ("NOP",)]),
+}
 
 
 def add(words, labels, line, name, *operands):
@@ -93,10 +119,10 @@ def add(words, labels, line, name, *operands):
         stop(line, "%s is no instruction and no form" % name)
     if LAST_BUNDLE in labels:
         stop(line, "nothing can follow straight")
-    count, starts, become = LINES[name]
-    if len(operands) != count:
-        stop(line, "%s has %d operands and needs %d" % (name, len(operands), count))
-    instructions = become(*operands)
+    least, most, starts, become = LINES[name]
+    if not least <= len(operands) <= most:
+        stop(line, "%s has %d operands and needs %s" % (name, len(operands), least if least == most else "%d or %d" % (least, most)))
+    instructions = become(line, *operands)
     if words and words[-1].name in BRANCHES and (len(instructions) != 1 or instructions[0][0] in BRANCHES):
         stop(line, "%s cannot stand in the delay slot of the branch or jump before it" % name)
     while len(words) % 4 not in starts or name == "straight" and not power_of_two(len(words) + 4):
@@ -129,7 +155,7 @@ def place(source):
             stop(line, "the label %s is there twice" % label)
         if label:
             labels[label] = None
-        parts = re.sub(r"[,()]|\bmask\b", " ", rest).split()
+        parts = re.sub(r"[,()]|\btable\b", " ", rest).split()
         if parts:
             add(words, labels, line, *parts)
     fill_up(words, labels, line)
@@ -145,9 +171,7 @@ def value(word, letter, text, here, labels):
         return (CODE_BASE + labels[text]) // 4
     if letter in "iu" and text in labels:
         return labels[text]
-    if not re.fullmatch(r"-?(0x[0-9A-Fa-f]+|[0-9]+)", text):
-        stop(word.line, "%s is no number" % text)
-    return int(text, 16 if "x" in text else 10)
+    return number_of(word.line, text)
 
 
 def encode(word, here, labels):

@@ -8,8 +8,8 @@
 ; All numbers are signed. One that does not fit in 32 bits ends the report and is in no figure of it: a difference or a sum ends in Integer
 ; Overflow, a product in Trap. Sales of 0 end in Trap, since there is no rate to them.
 ;
-; Registers: 2 a product, 4 and 5 its factors, 6 and 7 what it is tested by; 8 the total, 9 the rate; 10 the row's place, 12 its quantity,
-; 13 its cost, 14 its price; 15 the sales; 16 how many rows or digits are left; 17 a remainder; 31 the return address.
+; Registers: 2 a product, 4 and 5 its factors, 6 and 7 what it is tested by; 8 the total, 9 the rate; 10 a cell's place, 12 its row's
+; quantity, 13 the cost, 14 the price; 15 the sales; 16 how many rows or digits are left; 17 a remainder; 31 the return address.
 
 start:
         ADDIU   8, 0, 0
@@ -18,20 +18,23 @@ start:
         ADDIU   16, 0, 4
 
 row:
-        load.w  12, 0(10) mask 48   ; the mask keeps the place of a row: 0, 16, 32 or 48
-        load.w  13, 4(10) mask 48
-        load.w  14, 8(10) mask 48
+        load.w  12, 0(10) table 64  ; the mask keeps the place of a cell in the table's 64 bytes: 0, 4, 8, .. or 60
+        ADDIU   10, 10, 4           ; the next cell
+        load.w  13, 0(10) table 64
+        ADDIU   10, 10, 4
+        load.w  14, 0(10) table 64
         SUB     4, 14, 13
+        ADDIU   10, 10, 4           ; the cell of the margin
         call    product
         OR      5, 12, 0            ; in the slot: (price - cost) * quantity
-        store.w 2, 12(10) mask 48
+        store.w 2, 0(10) table 64
         ADD     8, 8, 2
         call    product
         OR      4, 14, 0            ; in the slot: price * quantity
         ADD     15, 15, 2
         ADDIU   16, 16, -1
         BNE     16, 0, row
-        ADDIU   10, 10, 16          ; in the slot: the next row
+        ADDIU   10, 10, 4           ; in the slot: the next row
 
 ; The rate is divided out digit by digit, a whole part and four digits more, because total * 10000 would seldom fit in 32 bits. A remainder
 ; is smaller than the sales, and times 10 it always fits where they are at most 214748365. It has the sign of the total, so that each digit

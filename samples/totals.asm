@@ -9,70 +9,66 @@
 ;
 ; There is no loop and no call here: each row has its own words, and every branch leads ahead, at least over its slot.
 ;
-; Registers: 2 a margin, 6 and 7 what it is tested by; 8 the total; 10 the row's place, 12 its quantity, 13 its cost, 14 its price.
+; Registers: 2 a margin, 6 and 7 what it is tested by; 8 the total; 10 the data's base, 12 a row's quantity, 13 its cost, 14 its price.
 
         ADDIU   8, 0, 0
-        ADDIU   10, 0, 0
-        load.w  12, 0(10) mask 48   ; the mask keeps the place of a row: 0, 16, 32 or 48
+        load.w  12, 0(10) table 4    ; a cell at a place that is known: its mask is 0
         BEQ     12, 0, second
         NOP
-        load.w  13, 4(10) mask 48
-        load.w  14, 8(10) mask 48
+        load.w  13, 4(10) table 4
+        load.w  14, 8(10) table 4
         SUB     2, 14, 13
         MULT    2, 12
         MFLO    2
         MFHI    6
         SRA     7, 2, 31
         TNE     6, 7
-        store.w 2, 12(10) mask 48
+        store.w 2, 12(10) table 4
         ADD     8, 8, 2
 
 second:
-        ADDIU   10, 0, 16
-        load.w  12, 0(10) mask 48
+        load.w  12, 16(10) table 4
         BEQ     12, 0, third
         NOP
-        load.w  13, 4(10) mask 48
-        load.w  14, 8(10) mask 48
+        load.w  13, 20(10) table 4
+        load.w  14, 24(10) table 4
         SUB     2, 14, 13
         MULT    2, 12
         MFLO    2
         MFHI    6
         SRA     7, 2, 31
         TNE     6, 7
-        store.w 2, 12(10) mask 48
+        store.w 2, 28(10) table 4
         ADD     8, 8, 2
 
 third:
-        ADDIU   10, 0, 32
-        load.w  12, 0(10) mask 48
+        load.w  12, 32(10) table 4
         BEQ     12, 0, fourth
         NOP
-        load.w  13, 4(10) mask 48
-        load.w  14, 8(10) mask 48
+        load.w  13, 36(10) table 4
+        load.w  14, 40(10) table 4
         SUB     2, 14, 13
         MULT    2, 12
         MFLO    2
         MFHI    6
         SRA     7, 2, 31
         TNE     6, 7
-        store.w 2, 12(10) mask 48
+        store.w 2, 44(10) table 4
         ADD     8, 8, 2
 
 fourth:
-        ADDIU   10, 0, 48
-        load.w  12, 0(10) mask 48
+        load.w  12, 48(10) table 4
         BEQ     12, 0, complete
         NOP
-        load.w  13, 4(10) mask 48
-        load.w  14, 8(10) mask 48
+        load.w  13, 52(10) table 4
+        load.w  14, 56(10) table 4
         SUB     2, 14, 13
         MULT    2, 12
         MFLO    2
         MFHI    6
         SRA     7, 2, 31
         TNE     6, 7
-        store.w 2, 12(10) mask 48
+        store.w 2, 60(10) table 4
         ADD     8, 8, 2
         J       complete            ; past the NOPs that fill the module up
         NOP

@@ -38,6 +38,12 @@ WORDS = [
     (22, 0, M_WORDS[:2] + [0xAD09FFFC] + M_WORDS[3:]),
     (22, 1, [0, 0x3108003F] + M_WORDS[1:3] + M_WORDS[4:]),
     (12, 2, [0x3109003F] + M_WORDS[1:]),
+    # ticket 7: masks with a hole, one in the second word of a bundle; and with a wrong offset, and another register's guard
+    (25, 0, [0x31080034] + M_WORDS[1:]),
+    (25, 0, [0x31080030] + M_WORDS[1:]),
+    (25, 1, [0, 0x31080034] + M_WORDS[1:3] + M_WORDS[4:]),
+    (22, 0, [0x31080034, M_WORDS[1], 0xAD09FFFC] + M_WORDS[3:]),
+    (12, 2, [0x31090034] + M_WORDS[1:]),
 ]
 
 
@@ -89,13 +95,13 @@ def expect_verdicts(options, files, verdicts, data=None):
 
 def test_samples():
     """Document 01's C9, and what README says of the samples."""
-    verdicts = ["accept 8", "accept 64", "accept 8", "refuse 22 0", "refuse 12 3"]
-    files = ["samples/%s.module" % name for name in ("m", "margin", "overflow", "refused", "forgotten")]
+    verdicts = ["accept 8", "accept 64", "accept 8", "refuse 22 0", "refuse 12 3", "refuse 25 0"]
+    files = ["samples/%s.module" % name for name in ("m", "margin", "overflow", "refused", "forgotten", "holes")]
     for file, verdict in zip(files, verdicts):
         expect_verdicts([], [file], [verdict])
     expect_verdicts([], files, verdicts)
     expect_verdicts([], files[::-1], verdicts[::-1])
-    expect_verdicts(["--data-size", "128"], files, verdicts[:3] + ["accept 8", "refuse 12 3"])
+    expect_verdicts(["--data-size", "128"], files, verdicts[:3] + ["accept 8", "refuse 12 3", "refuse 25 0"])
     expect_verdicts([], [files[0]] * 3, ["accept 8"] * 3)
 
 
@@ -153,9 +159,10 @@ def test_straight():
     expect_verdicts(["--straight"], together, [verdict for verdict, _ in STRAIGHT])
     for number, option in LAYOUTS:
         expect_verdicts(["--straight"] + option.split(), [write_words(STRAIGHT[0][1])], ["refuse %d -" % number])
-    files = ["samples/%s.module" % name for name in ("totals", "m", "margin", "overflow", "refused", "forgotten")]
-    expect_verdicts([], files, ["accept 128", "accept 8", "accept 64", "accept 8", "refuse 22 0", "refuse 12 3"])
-    expect_verdicts(["--straight"], files, ["accept 128", "refuse 20 6", "refuse 20 30", "refuse 20 6", "refuse 22 0", "refuse 12 3"])
+    files = ["samples/%s.module" % name for name in ("totals", "m", "margin", "overflow", "refused", "forgotten", "holes")]
+    refused = ["refuse 22 0", "refuse 12 3", "refuse 25 0"]
+    expect_verdicts([], files, ["accept 128", "accept 8", "accept 64", "accept 8"] + refused)
+    expect_verdicts(["--straight"], files, ["accept 128", "refuse 20 6", "refuse 20 30", "refuse 20 6"] + refused)
     for length in (16, 32, 4096, 65536):
         expect_verdicts(["--straight"], [write_words(straight_words([], length))], ["accept %d" % (length // 4)])
 
@@ -263,7 +270,8 @@ def guarded(r):
     """An access, JR or JALR with its guard, wrong in about every third."""
     base, source, jump = r.choice([1, 8, 31]), r.randrange(32), r.random() < 0.2
     width = r.choice([1, 2, 4])
-    mask = r.choice([0, 16, 48, 0x10, 0xF0]) if jump else r.choice([0, 4, 28, 32, 60, 56]) | r.choice([0, 0, 0, width // 2])
+    whole = (4 << r.randrange(5)) - width
+    mask = r.choice([0, 16, 48, 0x10, 0xF0]) if jump else r.choice([whole, whole, whole, 32, 52, 56]) | r.choice([0, 0, 0, width // 2])
     offset = r.choice([0, 0, width, 64 - width, 65536 - width])
     opcode = {1: [0x20, 0x24, 0x28], 2: [0x21, 0x25, 0x29], 4: [0x23, 0x2B, 0x30, 0x38]}[width]
     words = [0x30000000 | source << 21 | base << 16 | mask, 0x00000025 | base << 21 | (27 if jump else 26) << 16 | base << 11]
@@ -320,10 +328,10 @@ def emulated_verdict(name, layout, length, checker="check"):
 
 
 def test_random_modules():
-    """The verdicts of the second emulator and, in the default layout, of the verdict program; all of document 01's and 22 are among them."""
+    """The verdicts of the second emulator and, in the default layout, of the verdict program; all of document 01's, 22 and 25 are among them."""
     r = random.Random(20261116)
     samples = []
-    for name in ("m", "margin", "overflow", "refused", "forgotten"):
+    for name in ("m", "margin", "overflow", "refused", "forgotten", "holes"):
         with open(path_of("samples/%s.module" % name), "rb") as file:
             content = file.read()
         samples.append(struct.unpack("<%dI" % (len(content) // 4), content))
@@ -338,11 +346,11 @@ def test_random_modules():
             came = [run([], content, program="verdict").out.decode().rstrip("\n") for content in contents]
             equal(["check"] + names, "the verdict program's lines", verdicts, came)
         met.update(verdict.split()[1] if verdict.startswith("refuse") else "accept" for verdict in verdicts)
-    equal(["check"], "verdicts that were met", {"accept", "22"} | {"%d" % number for number in range(1, 17)}, met)
+    equal(["check"], "verdicts that were met", {"accept", "22", "25"} | {"%d" % number for number in range(1, 17)}, met)
 
 
 def test_random_straight_modules():
-    """The same with --straight: all numbers of the checker are met, 20 to 22 among them."""
+    """The same with --straight: all numbers of the checker are met, 20 to 22 and 25 among them."""
     r, met = random.Random(20261117), set()
     for layout in [DEFAULT] * 12 + [random_layout(r) for _ in range(40)]:
         contents = [random_straight(r) for _ in range(30 if layout is DEFAULT else 6)]
@@ -351,4 +359,4 @@ def test_random_straight_modules():
         options = ["--%s=%d" % (name, number) for name, number in layout.items() if number is not None and layout is not DEFAULT]
         expect_verdicts(["--straight"] + options, names, verdicts)
         met.update(verdict.split()[1] if verdict.startswith("refuse") else "accept" for verdict in verdicts)
-    equal(["check", "--straight"], "verdicts that were met", {"accept", "20", "21", "22"} | {"%d" % number for number in range(1, 17)}, met)
+    equal(["check", "--straight"], "verdicts that were met", {"accept", "20", "21", "22", "25"} | {"%d" % number for number in range(1, 17)}, met)

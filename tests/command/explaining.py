@@ -248,7 +248,7 @@ def test_places():
         expect_refused([], module(words, length), number, place, lines, layout_text(code_size=length))
 
 
-# Refusals 12 and 22: the place, the four words of a bundle, what is wrong with them, and the words that take their place where it is mended as
+# Refusals 12, 22 and 25: the place, the four words of a bundle, what is wrong with them, and the words that take their place where it is mended as
 # the text says, None where that is another bundle.
 ANDI, OR, SW = 0x31080000, 0x011A4025, 0xAD090000  # ANDI 8,8,0; OR 8,8,26; SW 9,0(8); with a mask and an offset put in
 FIRST, SECOND = "The %s at word %d is the first word of its bundle", "The %s at word %d is the second word of its bundle"
@@ -265,7 +265,7 @@ GUARDS = [
     (12, 3, [ANDI | 0x3C, OR, 0, SW], "The base of the sw at word 3 is register 8. Word 1 is or $8,$8,$26 and must be andi $8,S,m. Word 2 is nop "
      "and must be or $8,$8,$26." + BOTH, [0, ANDI | 0x3C, OR, SW]),
     (12, 2, [0x3508003C, OR, SW], BASE_8 + "Word 0 is ori $8,$8,0x3c and must be andi $8,S,m." + ONE, [ANDI | 0x3C, OR, SW]),
-    (12, 2, [0x3109003F, OR, SW | 2], BASE_8 + "Word 0 is andi $9,$8,0x3f and must be andi $8,S,m." + ONE, [ANDI | 0x38, OR, SW | 4]),
+    (12, 2, [0x3109003F, OR, SW | 2], BASE_8 + "Word 0 is andi $9,$8,0x3f and must be andi $8,S,m." + ONE, [ANDI | 0x1C, OR, SW | 4]),
     (12, 2, [ANDI | 0x3C, 0x011A4021, SW], BASE_8 + "Word 1 is addu $8,$8,$26 and must be or $8,$8,$26." + ONE, [ANDI | 0x3C, OR, SW]),
     (12, 2, [ANDI | 0x3C, 0x03484025, SW], BASE_8 + "Word 1 is or $8,$26,$8 and must be or $8,$8,$26." + ONE, [ANDI | 0x3C, OR, SW]),
     (12, 2, [ANDI | 0x3F, 0x011B4025, SW], BASE_8 + "Word 1 is or $8,$8,$27 and must be or $8,$8,$26." + ONE, [ANDI | 0x3C, OR, SW]),
@@ -278,27 +278,57 @@ GUARDS = [
     (12, 2, [ANDI | 0x3C, OR, 0x8F690000], NO_GUARD % ("lw", 27), None),
     (12, 2, [0x3100003C, 0x001A0025, 0x80090000], NO_GUARD % ("lb", 0), None),
     (22, 0, [ANDI | 0x3F, OR, SW], "Word 0, with the mask 0x3f, guards the sw at word 2, with the offset 0 and a width of 4. The mask is no multiple "
-     "of 4. Mask, offset and width are 63 + 0 + 4 = 67, and the data has 64 bytes. To mend: make the mask of word 0 a multiple of 4, at most "
+     "of 4. Mask, offset and width are 63 + 0 + 4 = 67, and the data has 64 bytes. To mend: make the mask of word 0 a power of two less 4, at most "
      "0x3c.", [ANDI | 0x3C, OR, SW]),
+    # the mask has a hole too, with which no data size would do
+    (22, 0, [ANDI | 0x40, OR, SW], "Word 0, with the mask 0x40, guards the sw at word 2, with the offset 0 and a width of 4. Mask, offset and width "
+     "are 64 + 0 + 4 = 68, and the data has 64 bytes. The mask has a hole too, which is refused by 25. To mend: make the mask of word 0 a power of "
+     "two less 4, at most 0x3c.", [ANDI | 0x3C, OR, SW]),
+    (22, 0, [ANDI | 0x34, OR, SW | 0xC], "Word 0, with the mask 0x34, guards the sw at word 2, with the offset 12 and a width of 4. Mask, offset and "
+     "width are 52 + 12 + 4 = 68, and the data has 64 bytes. The mask has a hole too, which is refused by 25. To mend: make the mask of word 0 a "
+     "power of two less 4, at most 0x1c.", [ANDI | 0x1C, OR, SW | 0xC]),
     (22, 0, [ANDI | 0x2A, OR, SW | 8], "Word 0, with the mask 0x2a, guards the sw at word 2, with the offset 8 and a width of 4. The mask is no "
-     "multiple of 4. To mend: make the mask of word 0 a multiple of 4, at most 0x34.", [ANDI | 0x34, OR, SW | 8]),
+     "multiple of 4. To mend: make the mask of word 0 a power of two less 4, at most 0x1c.", [ANDI | 0x1C, OR, SW | 8]),
+    (22, 1, [0, ANDI | 0x1E, OR, 0xA5090003], "Word 1, with the mask 0x1e, guards the sh at word 3, with the offset 3 and a width of 2. The offset "
+     "is no multiple of 2. To mend: make the offset of word 3 a multiple of 2, at most 0x20 and not negative.",
+     [0, ANDI | 0x1E, OR, 0xA5090020]),
     (22, 1, [0, ANDI | 0x30, OR, 0xA5090003], "Word 1, with the mask 0x30, guards the sh at word 3, with the offset 3 and a width of 2. The offset "
-     "is no multiple of 2. To mend: make the offset of word 3 a multiple of 2, at most 0xe and not negative.",
-     [0, ANDI | 0x30, OR, 0xA509000E]),
+     "is no multiple of 2. The mask has a hole too, which is refused by 25. To mend: change both, so that the mask is a power of two less 2, the "
+     "offset not negative and a multiple of 2, and the three are at most 64.", [0, ANDI | 0x1E, OR, 0xA5090020]),
     (22, 0, [ANDI | 0x3C, OR, SW | 0xFFFC], "Word 0, with the mask 0x3c, guards the sw at word 2, with the offset -4 and a width of 4. The offset is "
      "negative. To mend: make the offset of word 2 a multiple of 4, at most 0x0 and not negative.", [ANDI | 0x3C, OR, SW]),
-    (22, 0, [ANDI | 0x3E, OR, 0x8109FFFF], "Word 0, with the mask 0x3e, guards the lb at word 2, with the offset -1 and a width of 1. The offset is "
-     "negative. To mend: make the offset of word 2 at most 0x1 and not negative.", [ANDI | 0x3E, OR, 0x81090001]),
+    (22, 0, [ANDI | 0x1F, OR, 0x8109FFFF], "Word 0, with the mask 0x1f, guards the lb at word 2, with the offset -1 and a width of 1. The offset is "
+     "negative. To mend: make the offset of word 2 at most 0x20 and not negative.", [ANDI | 0x1F, OR, 0x81090020]),
     (22, 0, [ANDI | 0x3F, OR, 0x91090001], "Word 0, with the mask 0x3f, guards the lbu at word 2, with the offset 1 and a width of 1. Mask, offset "
-     "and width are 63 + 1 + 1 = 65, and the data has 64 bytes. To mend: make the mask of word 0 at most 0x3e. With a data size of 128 it would "
-     "fit as it is.", [ANDI | 0x3E, OR, 0x91090001]),
+     "and width are 63 + 1 + 1 = 65, and the data has 64 bytes. To mend: make the mask of word 0 a power of two less 1, at most 0x1f. With a data "
+     "size of 128 it would fit as it is.", [ANDI | 0x1F, OR, 0x91090001]),
     (22, 0, [ANDI | 0x3F, OR, 0xE109FFFE], "Word 0, with the mask 0x3f, guards the sc at word 2, with the offset -2 and a width of 4. The mask is no "
      "multiple of 4. The offset is no multiple of 4. The offset is negative. Mask, offset and width are 63 - 2 + 4 = 65, and the data has 64 "
-     "bytes. To mend: change both, so that the offset is not negative and the three are at most 64, mask and offset multiples of 4.",
-     [ANDI | 0x20, OR, 0xE109001C]),
+     "bytes. To mend: change both, so that the mask is a power of two less 4, the offset not negative and a multiple of 4, and the three are at most "
+     "64.", [ANDI | 0x1C, OR, 0xE1090020]),
     (22, 0, [ANDI | 0xFFFF, OR, 0x81097FFF], "Word 0, with the mask 0xffff, guards the lb at word 2, with the offset 32767 and a width of 1. Mask, "
-     "offset and width are 65535 + 32767 + 1 = 98303, and the data has 64 bytes. To mend: change both, so that the offset is not negative and "
-     "the three are at most 64.", [ANDI | 0x20, OR, 0x8109001F]),
+     "offset and width are 65535 + 32767 + 1 = 98303, and the data has 64 bytes. To mend: change both, so that the mask is a power of two less 1, "
+     "the offset not negative, and the three are at most 64.", [ANDI | 0x1F, OR, 0x81090020]),
+    (25, 0, [ANDI | 0x34, OR, SW], "Word 0, with the mask 0x34, guards the sw at word 2, with the offset 0 and a width of 4. Mask and width are 52 + "
+     "4 = 56, which is 111000 in binary, with 3 ones, and a power of two has one. The mask is 110100 and leaves 0x8 out of a place, so that the "
+     "places 0x0 and 0x8 go to one cell, and two rows can too. To mend: make the mask of word 0 0x1c, or 0x3c, which leaves nothing out and fits "
+     "the data.", [ANDI | 0x3C, OR, SW]),
+    (25, 1, [0, ANDI | 0x30, OR, 0x8D09000C], "Word 1, with the mask 0x30, guards the lw at word 3, with the offset 12 and a width of 4. Mask and "
+     "width are 48 + 4 = 52, which is 110100 in binary, with 3 ones, and a power of two has one. The mask is 110000 and leaves 0xc out of a place, "
+     "so that the places 0x0 and 0x4 go to one cell, and two rows can too. To mend: make the mask of word 1 0x1c. With this offset 0x3c, which "
+     "leaves nothing out, does not fit the data.", [0, ANDI | 0x1C, OR, 0x8D09000C]),
+    (25, 0, [ANDI | 0x3E, OR, 0x81090000], "Word 0, with the mask 0x3e, guards the lb at word 2, with the offset 0 and a width of 1. Mask and width "
+     "are 62 + 1 = 63, which is 111111 in binary, with 6 ones, and a power of two has one. The mask is 111110 and leaves 0x1 out of a place, so that "
+     "the places 0x0 and 0x1 go to one cell, and two rows can too. To mend: make the mask of word 0 0x1f, or 0x3f, which leaves nothing out and "
+     "fits the data.", [ANDI | 0x1F, OR, 0x81090000]),
+    (25, 0, [ANDI | 0x3C, OR, 0xA5090002], "Word 0, with the mask 0x3c, guards the sh at word 2, with the offset 2 and a width of 2. Mask and width "
+     "are 60 + 2 = 62, which is 111110 in binary, with 5 ones, and a power of two has one. The mask is 111100 and leaves 0x2 out of a place, so that "
+     "the places 0x0 and 0x2 go to one cell, and two rows can too. To mend: make the mask of word 0 0x1e. With this offset 0x3e, which leaves "
+     "nothing out, does not fit the data.", [ANDI | 0x1E, OR, 0xA5090002]),
+    (25, 0, [ANDI | 8, OR, 0xE1090030], "Word 0, with the mask 0x8, guards the sc at word 2, with the offset 48 and a width of 4. Mask and width are "
+     "8 + 4 = 12, which is 1100 in binary, with 2 ones, and a power of two has one. The mask is 1000 and leaves 0x4 out of a place, so that the "
+     "places 0x0 and 0x4 go to one cell, and two rows can too. To mend: make the mask of word 0 0x4, or 0xc, which leaves nothing out and fits the "
+     "data.", [ANDI | 0xC, OR, 0xE1090030]),
 ]
 
 
@@ -315,7 +345,7 @@ def lines_of(words, place):
 
 
 def test_guards():
-    """12 and 22 with what is wrong and what to mend, as text and as an object; and mended so the module is accepted."""
+    """12, 22 and 25 with what is wrong and what to mend, as text and as an object; and mended so the module is accepted."""
     for number, place, words, finding, mended in GUARDS:
         whole = list(struct.unpack("<8I", image(words, 32)))
         lines, name = lines_of(whole[:4], place), module(words, 32)
@@ -335,48 +365,85 @@ def test_guards():
               % (moved, moved + 1), came["finding"])
 
 
+def with_number(words, at, number):
+    """The words with another constant in one of them."""
+    return [word & 0xFFFF0000 | number if i == at else word for i, word in enumerate(words)]
+
+
+def width_of(finding):
+    return int(re.search(r"width of (\d)", finding).group(1))
+
+
 def as_told(words, finding):
-    """Mends the three words as the text says: each number as large as it may be."""
-    words, width = list(words), int(re.search(r"width of (\d)", finding).group(1))
-    mask = re.search(r"make the mask of word 0 (?:a multiple of \d, )?at most 0x([0-9a-f]+)", finding)
+    """Mends the three words as the text of 22 says: each number as large as it may be. Gives also what is one step too large, and what was mended."""
+    width = width_of(finding)
+    mask = re.search(r"make the mask of word 0 a power of two less %d, at most 0x([0-9a-f]+)\." % width, finding)
     offset = re.search(r"make the offset of word 2 (?:a multiple of \d, )?at most 0x([0-9a-f]+) and not negative", finding)
     if mask:
-        words[0] = words[0] & 0xFFFF0000 | int(mask.group(1), 16)
-    elif offset:
-        words[2] = words[2] & 0xFFFF0000 | int(offset.group(1), 16)
-    else:
-        words[0], words[2] = words[0] & 0xFFFF0000, words[2] & 0xFFFF0000
-    return words, (0, width) if mask else (2, width) if offset else None
+        most = int(mask.group(1), 16)
+        return with_number(words, 0, most), with_number(words, 0, 2 * most + width), "mask"
+    if offset:
+        most = int(offset.group(1), 16)
+        return with_number(words, 2, most), with_number(words, 2, most + width), "offset"
+    whole = with_number(words, 0, 32 - width)
+    return with_number(whole, 2, 32), with_number(whole, 2, 32 + width), "both"
 
 
 def random_numbers(r):
-    """A guard and its access, often with a mask or an offset that is wrong, and the width."""
+    """A guard and its access, often with a mask or an offset that is wrong."""
     width, opcode = r.choice([(1, 0x24), (2, 0x29), (4, 0x23), (4, 0x38)])
-    mask = r.choice([r.randrange(0x50), r.randrange(0x10) * width, 64 - width, 64, r.getrandbits(16)])
-    offset = r.choice([0, 0, width * r.randrange(16), r.randrange(16), -width * r.randrange(1, 4) & 0xFFFF, r.getrandbits(16)])
+    whole = (4 << r.randrange(7)) - width
+    mask = r.choice([r.randrange(0x50), r.randrange(0x10) * width, whole, whole, 64, r.getrandbits(16)])
+    offset = r.choice([0, 0, width * r.randrange(16), r.randrange(16), 64 - width - mask & 0xFFFF, -width * r.randrange(1, 4) & 0xFFFF,
+                       r.getrandbits(16)])
     return [ANDI | mask, OR, opcode << 26 | 0x01090000 | offset]
 
 
+def verdict_of(words, *options):
+    return run(["check", *options, module(words, 32)]).out.decode()
+
+
+def follow_22(words, finding):
+    """Mended as told the module is accepted, and one step further it is not; and so with the data size. Gives what was mended."""
+    mended, too_large, what = as_told(words, finding)
+    equal(["check"], "the verdict on what is mended as told", "accept 8\n", verdict_of(mended))
+    equal(["check"], "the verdict one step further", "refuse 22 0\n", verdict_of(too_large))
+    size = re.search(r"With a data size of (\d+) it would fit", finding)
+    if not size:
+        return {what}
+    equal(["check"], "the verdict with the data size", "accept 8\n", verdict_of(words, "--data-size", size.group(1)))
+    equal(["check"], "the verdict with half of it", "refuse 22 0\n", verdict_of(words, "--data-size", "%d" % (int(size.group(1)) // 2)))
+    return {what, "size"}
+
+
+def follow_25(words, finding):
+    """With each mask that is told the module is accepted, and with one that does not fit it is not. No mask between the two has no hole. The two
+    places go to one cell, and the bits are those of the sum and of the mask. Gives what was told."""
+    width, mask = width_of(finding), words[0] & 0xFFFF
+    below = int(re.search(r"make the mask of word 0 0x([0-9a-f]+)", finding).group(1), 16)
+    above, end = re.search(r" 0x([0-9a-f]+), which leaves nothing out(, does not fit the data\.| and fits the data\.)$", finding).groups()
+    fits, above = "and fits" in end, int(above, 16)
+    equal(["check"], "the verdict with the mask below", "accept 8\n", verdict_of(with_number(words, 0, below)))
+    equal(["check"], "the verdict with the mask above", "accept 8\n" if fits else "refuse 22 0\n", verdict_of(with_number(words, 0, above)))
+    equal(["explain"], "the masks beside it", (True, True), (below < mask < above, above + width == 2 * (below + width)))
+    left_out, first, second = (int(text, 16) for text in re.search(
+        r"leaves 0x([0-9a-f]+) out of a place, so that the places 0x([0-9a-f]+) and 0x([0-9a-f]+) go to one cell", finding).groups())
+    equal(["explain"], "two places", (True, first & mask), (first != second, second & mask))
+    equal(["explain"], "what is left out", above, mask | left_out)
+    binary = re.search(r"which is ([01]+) in binary, with (\d+) ones, and a power of two has one\. The mask is ([01]+) ", finding).groups()
+    equal(["explain"], "the bits", (bin(mask + width)[2:], "%d" % bin(mask + width).count("1"), bin(mask)[2:]), binary)
+    return {"a mask above" if fits else "no mask above"}
+
+
 def test_advice():
-    """Random guards with wrong numbers: mended as told they are accepted, and with a width more they are not; and so with the data size."""
+    """Random guards with wrong numbers, mended as told."""
     r, met = random.Random(20261127), set()
-    for _ in range(120):
+    for _ in range(200):
         words = random_numbers(r)
         came = json.loads(run(["explain", "--json", module(words, 32)]).out)
-        if came["verdict"] == "accept":
-            continue
-        mended, more = as_told(words, came["finding"])
-        met.add("both" if more is None else "mask" if more[0] == 0 else "offset")
-        expect(["check", module(mended, 32)], DONE, "accept 8\n")
-        if more:
-            mended[more[0]] += more[1]
-            expect(["check", module(mended, 32)], REFUSED, "refuse 22 0\n")
-        size = re.search(r"With a data size of (\d+) it would fit", came["finding"])
-        if size:
-            met.add("size")
-            expect(["check", "--data-size", size.group(1), module(words, 32)], DONE, "accept 8\n")
-            expect(["check", "--data-size", "%d" % (int(size.group(1)) // 2), module(words, 32)], REFUSED, "refuse 22 0\n")
-    equal(["explain", "--json"], "what was to be mended", {"mask", "offset", "both", "size"}, met)
+        if came["verdict"] == "refuse":
+            met |= (follow_25 if came["number"] == 25 else follow_22)(words, came["finding"])
+    equal(["explain", "--json"], "what was to be mended", {"mask", "offset", "both", "size", "a mask above", "no mask above"}, met)
 
 
 # Refusal 15. Where the branch leads is shown with the word after it, unless both are among the lines already.
@@ -641,24 +708,55 @@ samples/refused.module is refused, number 22 at word 0
 An access with its two guard words, whose mask or offset is wrong: it could
 reach outside the data. The word is the guard's ANDI, two before the access.
 
--->    0  0x00010000  31080040    andi    $8,$8,0x40
+-->    0  0x00010000  3108007c    andi    $8,$8,0x7c
        1  0x00010004  011a4025    or      $8,$8,$26
        2  0x00010008  ad090000    sw      $9,0($8)
        3  0x0001000c  0000000c    syscall
 
-What is wrong here: Word 0, with the mask 0x40, guards the sw at word 2, with
-the offset 0 and a width of 4. Mask, offset and width are 64 + 0 + 4 = 68, and
-the data has 64 bytes. To mend: make the mask of word 0 a multiple of 4, at most
-0x3c. With a data size of 128 it would fit as it is.
+What is wrong here: Word 0, with the mask 0x7c, guards the sw at word 2, with
+the offset 0 and a width of 4. Mask, offset and width are 124 + 0 + 4 = 128, and
+the data has 64 bytes. To mend: make the mask of word 0 a power of two less 4,
+at most 0x3c. With a data size of 128 it would fit as it is.
 
 Whom to ask: Whoever writes the compiler. First compare the file with the one
 that the compiler wrote, by length and checksum: where they differ, fetch it
 again. The author of the report cannot mend it.
 
 What to do: See that the data size is the one that the compiler was told.
-Compiler: the guard words are right; make the mask m and the access's offset
-multiples of its width, the offset not negative, and m + offset + width at most
-the data size.
+Compiler: the guard words are right; make the mask m a power of two less the
+access's width, the offset a multiple of the width and not negative, and m +
+offset + width at most the data size.
+
+Checked for memory of 196608 bytes, 32 bytes of code at 0x10000,
+64 bytes of data at 0x20000.
+""")
+    expect("explain samples/holes.module", REFUSED, """\
+samples/holes.module is refused, number 25 at word 0
+
+An access with its two guard words, whose mask has a hole: mask and width are no
+power of two together, so that two rows can go to one cell. The word is the
+guard's ANDI, two before the access.
+
+-->    0  0x00010000  31080034    andi    $8,$8,0x34
+       1  0x00010004  011a4025    or      $8,$8,$26
+       2  0x00010008  ad090000    sw      $9,0($8)
+       3  0x0001000c  0000000c    syscall
+
+What is wrong here: Word 0, with the mask 0x34, guards the sw at word 2, with
+the offset 0 and a width of 4. Mask and width are 52 + 4 = 56, which is 111000
+in binary, with 3 ones, and a power of two has one. The mask is 110100 and
+leaves 0x8 out of a place, so that the places 0x0 and 0x8 go to one cell, and
+two rows can too. To mend: make the mask of word 0 0x1c, or 0x3c, which leaves
+nothing out and fits the data.
+
+Whom to ask: Whoever writes the compiler. First compare the file with the one
+that the compiler wrote, by length and checksum: where they differ, fetch it
+again. The author of the report cannot mend it.
+
+What to do: Compiler: the guard words are right, and no access leaves the data;
+make the mask m a power of two less the access's width, which is the size of a
+table less the width, and let the register hold the place of a cell in it, and
+not of a row.
 
 Checked for memory of 196608 bytes, 32 bytes of code at 0x10000,
 64 bytes of data at 0x20000.
@@ -784,7 +882,7 @@ def test_object_bytes():
 
 def test_numbers():
     """The text of every number has the sentences of its object, in lines of at most 80 columns."""
-    for number in range(1, 25):
+    for number in range(1, 26):
         said = told(number)
         expect("explain --number %d" % number, DONE, "%d is a refusal\n\n" % number + wrapped(said["meaning"])
                + "\nFor example: %s\n\n" % said["example"] + wrapped("Whom to ask: " + said["ask"]) + "\n"
@@ -816,7 +914,7 @@ or hand it back with the size that it was given with.
 Not all of the four bytes from PC on are inside memory; they do not wrap, so PC
 0xFFFFFFFC gives 50.
 """)
-    for number in (0, 25, 39, 53, 2 ** 32 - 1):
+    for number in (0, 26, 39, 53, 2 ** 32 - 1):
         expect(["explain", "--number", str(number)], 2, "",
-               "cc100 explain: %d is no number of a refusal, 1 to 24, or of an exit, 40 to 52\n"
+               "cc100 explain: %d is no number of a refusal, 1 to 25, or of an exit, 40 to 52\n"
                "usage: cc100 explain [OPTION]... FILE | --number N\n'cc100 explain --help' says more\n" % number)

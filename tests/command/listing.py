@@ -200,14 +200,14 @@ def test_sample():
     7  0x0001001c  00000000    nop
 """)
     lines = run("list samples/margin.module").out.decode().splitlines()
-    for said in ("    4  0x00010010  314a0030  / andi    $10,$10,0x30", "    5  0x00010014  015a5025  | or      $10,$10,$26",
-                 "    6  0x00010018  8d4c0000  \\ lw      $12,0($10)", "    7  0x0001001c  00000000    nop",
+    for said in ("    4  0x00010010  314a003c  / andi    $10,$10,0x3c", "    5  0x00010014  015a5025  | or      $10,$10,$26",
+                 "    6  0x00010018  8d4c0000  \\ lw      $12,0($10)", "    7  0x0001001c  254a0004    addiu   $10,$10,4",
                  "   60  0x000100f0  33ff00f0  / andi    $31,$31,0xf0", "   61  0x000100f4  03fbf825  | or      $31,$31,$27",
-                 "   62  0x000100f8  03e00008  \\ jr      $31", "   18  0x00010048  0c004036    jal     0x100d8  (word 54)"):
+                 "   62  0x000100f8  03e00008  \\ jr      $31", "   26  0x00010068  0c004036    jal     0x100d8  (word 54)"):
         equal("list samples/margin.module", "a line", True, said in lines)
 
 
-# Document 01's guards. The widths of accesses by opcode, and which of them write rt.
+# Document 01's guards, whose masks have no hole by ticket 7 of document 02. The widths of accesses by opcode, and which of them write rt.
 WIDTHS = {0x20: 1, 0x24: 1, 0x28: 1, 0x21: 2, 0x25: 2, 0x29: 2, 0x23: 4, 0x2B: 4, 0x30: 4, 0x38: 4}
 WRITERS = {0x20, 0x24, 0x21, 0x25, 0x23, 0x30, 0x38}
 DATA, CODE = 26, 27  # the registers of the bases
@@ -240,7 +240,8 @@ def is_marked(words, code_size, data_size):
     if opcode in WIDTHS:
         width = WIDTHS[opcode]
         writes_base = opcode in WRITERS and rt in (DATA, CODE)
-        fits = mask % width == 0 and offset % width == 0 and offset < 0x8000 and mask + offset + width <= data_size
+        whole = bin(mask + width).count("1") == 1
+        fits = whole and mask % width == 0 and offset % width == 0 and offset < 0x8000 and mask + offset + width <= data_size
         return not writes_base and fits and guards(first, second, rs, DATA)
     register = jump_register(last)
     return register is not None and mask % 16 == 0 and mask <= code_size - 16 and guards(first, second, register, CODE)
@@ -271,7 +272,8 @@ def near_guard(rng, code_size, data_size):
     width, size = WIDTHS.get(opcode, 16), data_size
     if opcode == 0:
         base, size = CODE, code_size
-    mask = rng.choice((size - width, size - width, near(rng, size))) // width * width & 0xFFFF
+    below = max(size >> rng.randrange(1, 6), width) - width
+    mask = rng.choice((size - width, size - width, below, near(rng, size))) // width * width & 0xFFFF
     offset = rng.choice((0, 0, (size - width - mask) & 0xFFFF, near(rng, size) // width * width))
     last = opcode << 26 | register << 21 | rng.choice((9, some_register(rng))) << 16 | offset
     if opcode == 0:

@@ -72,8 +72,9 @@ def test_samples():
     expect("run samples/m.module --figures samples/m.figures", DONE, stored("m.expected"))
     expect("run samples/overflow.module --figures samples/m.figures", REFUSED, stored("overflow.expected"))
     expect("run samples/refused.module", REFUSED, "", refused("samples/refused.module", 22, 0))
+    expect("run samples/holes.module", REFUSED, "", refused("samples/holes.module", 25, 0))
     expect("run samples/forgotten.module", REFUSED, "", refused("samples/forgotten.module", 12, 3))
-    # with 128 bytes of data its mask of 0x40 fits, and register 8 and all data are 0
+    # with 128 bytes of data its mask of 0x7C fits, and register 8 and all data are 0
     expect("run samples/refused.module --data-size 128", DONE, placed(8, data_size=128) + after(3, 0x1000C) + NONE_LEFT + data_text([], 32))
 
 
@@ -300,7 +301,7 @@ def guarded(access, mask, value):
 def test_last_access():
     """A bundle with the access, and the Trap at word 4: at the first place, the last one, and 24 and an offset of 20."""
     for word, width, what in ACCESSES:
-        for mask, value, offset, place in ((64 - width, 0, 0, 0), (64 - width, 63, 0, 64 - width), (28, 24, 20, 44)):
+        for mask, value, offset, place in ((64 - width, 0, 0, 0), (64 - width, 63, 0, 64 - width), (32 - width, 24, 20, 44)):
             expect(["run", module(guarded(word | offset, mask, value) + [TRAP], 32)], REFUSED,
                    placed(8) + after(4, 0x10010) + "Trap" + incomplete((place, width, what)))
     # SC stores only after LL, and is no access where it does not

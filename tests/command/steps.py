@@ -207,7 +207,7 @@ def guarded(rng, size):
         return [0x30000000 | rng.randrange(26) << 21 | register << 16 | size - 16, register << 21 | 27 << 16 | register << 11 | 0x25, jump]
     number = rng.choice(list(ACCESSES) + [26, 26, 42, 42])
     width = ACCESSES[number]
-    mask = rng.randrange(0, 32) // width * width
+    mask = (4 << rng.randrange(4)) - width
     return [0x30000000 | rng.randrange(26) << 21 | register << 16 | mask, register << 21 | 26 << 16 | register << 11 | 0x25,
             drawn(rng, number, s=register, v=rng.randrange(0, 28) // width * width)]
 

@@ -98,7 +98,7 @@ def test_refusals():
 
 
 def test_whole_text():
-    """Worked out by hand: word 0, four rows of 24 steps, J and its slot. Without rows each is left out after 8 steps. In the second table
+    """Worked out by hand: word 0, four rows of 24 steps, J and its slot. Without rows each is left out after 5 steps. In the second table
     1500000 * 2500 does not fit, and TNE at word 44 is the Trap: word 0, a row, and 19 steps."""
     expect(TOTALS + ["samples/margin.rows"], DONE, """\
 128 words of code at 0x10000, 64 bytes of data at 0x20000
@@ -115,26 +115,26 @@ total margin 999500
 after 44 steps of at most 124, at 0x100b0: Trap; the report is not complete
 last access: load of 4 bytes at 0x20018, place 24 of the data area, the price of row 2
 """)
-    expect(TOTALS[:-1], DONE, placed(WORDS) + after(33, END, MOST) + COMPLETE + data_text([]))
+    expect(TOTALS[:-1], DONE, placed(WORDS) + after(21, END, MOST) + COMPLETE + data_text([]))
 
 
 def test_object_bytes():
     expect(TOTALS + [write("tried.rows", "1 1005 1000\n0 7 8\n"), "--json"], DONE,
            '{"event":"start","file":"samples/totals.module","words":128,"code_base":65536,"data_base":131072,"data_size":64,"most_steps":124}\n'
-           '{"event":"end","complete":true,"steps":49,"address":66032,"number":46,"exit":"System Call","code":0,'
+           '{"event":"end","complete":true,"steps":40,"address":66032,"number":46,"exit":"System Call","code":0,'
            '"access":{"address":131120,"place":48,"width":4,"store":false},'
            '"rows":[{"quantity":1,"cost":1005,"price":1000,"margin":-5},{"quantity":0,"cost":7,"price":8,"margin":0}],"total":-5}\n')
 
 
 def calculated(rows):
     """How samples/totals.module ends: steps, address and what stops it, with its last access; or steps, the margins and the total, with its
-    last access. Row k has its words from 1 + 24 * k on: the quantity's load is the sixth, SUB the fifteenth, the Trap the twentieth, the
-    store the twenty-third and ADD the last. A row that is left out has eight steps."""
+    last access. Row k has its words from 1 + 24 * k on: the quantity's load is the third, SUB the fifteenth, the Trap the twentieth, the
+    store the twenty-third and ADD the last. A row that is left out has five steps: its first guard and load, BEQ and its slot."""
     steps, total, margins, access = 1, 0, [], None
     for k, (quantity, cost, price) in enumerate(rows + [(0, 0, 0)] * (4 - len(rows))):
         word = 1 + 24 * k
         if quantity == 0:
-            steps, access = steps + 8, (16 * k, 4, "load")
+            steps, access = steps + 5, (16 * k, 4, "load")
             margins.append(0)
             continue
         access = (16 * k + 8, 4, "load")

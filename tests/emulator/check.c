@@ -1,4 +1,4 @@
-/* The checker: document 01's sections on a module, its guards and the refusal table, and tickets 2 and 5 of document 02. */
+/* The checker: document 01's sections on a module, its guards and the refusal table, and tickets 2, 5 and 7 of document 02. */
 #include <inttypes.h>
 #include <stdio.h>
 
@@ -168,6 +168,23 @@ static bool rule_22(const struct em_module *m, size_t index)
     return mask % width != 0 || offset % width != 0 || offset < 0 || mask + offset + width > m->data_size;
 }
 
+static uint32_t ones(uint32_t number)
+{
+    uint32_t count = 0;
+    for (; number != 0; number >>= 1)
+        count += number & 1;
+    return count;
+}
+
+/* "A data guard's mask plus the access width must now be a power of two, told from the count of ones in that sum." A mask has 16 bits, and the sum
+   may have 17. */
+static bool rule_25(const struct em_module *m, size_t index)
+{
+    struct em_instruction i = at(m, index);
+    uint32_t width = em_access_width(i.kind), mask;
+    return width != 0 && guarded(m, index, i.rs, DATA_BASE, &mask) && ones(mask + width) != 1;
+}
+
 static bool rule_13(const struct em_module *m, size_t index)
 {
     struct em_instruction i = at(m, index);
@@ -247,14 +264,14 @@ static bool rule_21(const struct em_module *m)
 static layout_rule *const layout_rules[] = {rule_1, rule_2, rule_3, rule_4, rule_5, rule_6, rule_7};
 
 /* What is tried at each word, in this order: a rule, its number, and how many words before the tried one it has its place. 22 is tried "directly
-   after 12 with the ANDI word's index as its place", and that is two words before the access. */
+   after 12 with the ANDI word's index as its place", and 25 "directly after 22, with the ANDI word's index"; that is two words before the access. */
 static const struct trial {
     uint32_t number;
     word_rule *broken;
     uint32_t back;
 } trials[] = {
-    {8, rule_8, 0}, {9, rule_9, 0}, {10, rule_10, 0}, {11, rule_11, 0}, {12, rule_12, 0}, {22, rule_22, 2}, {13, rule_13, 0},
-    {14, rule_14, 0}, {15, rule_15, 0}, {20, rule_20, 0},
+    {8, rule_8, 0}, {9, rule_9, 0}, {10, rule_10, 0}, {11, rule_11, 0}, {12, rule_12, 0}, {22, rule_22, 2}, {25, rule_25, 2},
+    {13, rule_13, 0}, {14, rule_14, 0}, {15, rule_15, 0}, {20, rule_20, 0},
 };
 
 /* The last of them, 20, is tried of straight-through modules alone. */

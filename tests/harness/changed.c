@@ -7,7 +7,7 @@
 #define MODULES 50000
 #define CHANGED 8 /* times that a module is changed */
 #define OFTEN 300 /* times that each number has to be given at least */
-#define NUMBERS 23
+#define NUMBERS 26
 #define MOST_MEMORY (CC100_LONGEST_MEMORY - 131072)
 
 static struct module m;
@@ -44,21 +44,23 @@ static void change_word(uint32_t at)
     }
 }
 
-/* A guard that is nearly right: with register 0, with the operands of its OR swapped, or all three words one later, which can be in the
-   next bundle. Gives whether there was one at the word or after it. */
+/* A guard that is nearly right: with register 0, with the operands of its OR swapped, with a bit of its mask changed, or all three words one later,
+   which can be in the next bundle. Gives whether there was one at the word or after it. */
 static int change_guard(uint32_t at)
 {
     while (at < words() && !guarded(&m, at))
         at++;
     if (at < 2 || at + 1 >= words())
         return 0;
-    uint32_t *w = &m.words[at - 2], choice = below(3), rs = w[1] & RS, rt = w[1] & RT;
+    uint32_t *w = &m.words[at - 2], choice = below(4), rs = w[1] & RS, rt = w[1] & RT;
     if (choice == 0) {
         w[0] &= ~RT;
         w[1] &= ~(RS | RD);
         w[2] &= ~RS;
     } else if (choice == 1) {
         w[1] = (w[1] & ~(RS | RT)) | rs >> 5 | rt << 5;
+    } else if (choice == 2) {
+        w[0] ^= 1u << below(16);
     } else {
         memmove(w + 1, w, 3 * sizeof *w);
         w[0] = 0;
@@ -156,14 +158,15 @@ static void change_modules(const struct profile *p, uint32_t numbers)
 void test_changed(void)
 {
     begin_part("changed modules");
-    change_modules(&usual, 0x41FFFF);
-    end_part("%lu accepted, each changed %d times; verdicts 22 %lu, 0 to 16:%s", modules, CHANGED, given[22], listed(given, 0, 16));
+    change_modules(&usual, 0x1FFFF | RULE(22) | RULE(25));
+    end_part("%lu accepted, each changed %d times; verdicts 22 %lu, 25 %lu, 0 to 16:%s", modules, CHANGED, given[22], given[25],
+             listed(given, 0, 16));
 }
 
 void test_changed_straight(void)
 {
     begin_part("changed straight-through modules");
-    change_modules(&straight, 0x71FFFF);
-    end_part("%lu accepted, each changed %d times; verdicts 20 %lu, 21 %lu, 22 %lu, 0 to 16:%s", modules, CHANGED, given[20], given[21],
-             given[22], listed(given, 0, 16));
+    change_modules(&straight, 0x1FFFF | RULE(20) | RULE(21) | RULE(22) | RULE(25));
+    end_part("%lu accepted, each changed %d times; verdicts 20 %lu, 21 %lu, 22 %lu, 25 %lu, 0 to 16:%s", modules, CHANGED, given[20], given[21],
+             given[22], given[25], listed(given, 0, 16));
 }

@@ -55,13 +55,13 @@ static const struct calls straight_calls = {"cc100_check_straight", "plain_check
 /* The image that was lent to the last check. */
 static struct lent image;
 
-/* Of an access's two refusals, 12 names the access, and 22 the ANDI of its guard, two words before it. */
+/* Of an access's three refusals, 12 names the access, and 22 and 25 the ANDI of its guard, two words before it. */
 static void look_at_place(const struct module *m, uint32_t number, uint32_t place)
 {
     now.call = "the emulator's checker";
     if (number == CC100_REFUSED_ACCESS)
         same_number("an access is at the place", 1, (uint64_t)(place < word_count(m) && access_width(kind_at(m, place))));
-    if (number == CC100_REFUSED_MASK)
+    if (number == CC100_REFUSED_MASK || number == CC100_REFUSED_MASK_HOLE)
         same_number("an ANDI is at the place, and an access two words on", 1,
                     (uint64_t)(place < word_count(m) - 2 && kind_at(m, place) == ANDI && access_width(kind_at(m, place + 2))));
 }

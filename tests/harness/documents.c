@@ -1,6 +1,6 @@
 /* Document 01's own answers, written down from it by hand: its marked cases C1 to C12, C10 and C11 as ticket 5 of document 02 has them, and every
-   example of its refusal table; and the accesses, the straight-through modules, the divisions and the guards of tickets 1, 2, 4 and 5. The
-   emulator is tried on them, as all else here trusts it, and the product and plain C beside it. */
+   example of its refusal table; and the accesses, the straight-through modules, the divisions, the guards and the masks of tickets 1, 2, 4, 5
+   and 7. The emulator is tried on them, as all else here trusts it, and the product and plain C beside it. */
 #include <string.h>
 
 #include "harness.h"
@@ -138,11 +138,12 @@ static void try_access(const struct access_case *c)
     same_number("store of the access", c->access.store, access.store);
 }
 
-/* A module of at most eight words in the layout of the examples, with one number of it changed: its verdict. */
+/* A module of at most sixteen words, mostly in the layout of the examples with one number of it changed: its verdict. */
+#define MOST_CASE_WORDS 16
 struct module_case {
     const char *name;
     uint64_t memory_length;
-    uint32_t code_base, code_size, data_base, data_size, image_length, words[8], number, place;
+    uint32_t code_base, code_size, data_base, data_size, image_length, words[MOST_CASE_WORDS], number, place;
 };
 
 #define EXAMPLE 196608, 0x10000, 32, 0x20000, 64, 32
@@ -224,7 +225,7 @@ static const struct module_case guard_cases[] = {
     {"SW, offset -4", EXAMPLE, {ANDI_8(0x3C), OR_8, SW_9 | 0xFFFC, 0, LAST_BUNDLE}, 22, 0},
     {"SW, offset -2", EXAMPLE, {ANDI_8(0x3C), OR_8, SW_9 | 0xFFFE, 0, LAST_BUNDLE}, 22, 0},
     {"LB, offset -32,768", EXAMPLE, {ANDI_8(0x3F), OR_8, LB_9 | 0x8000, 0, LAST_BUNDLE}, 22, 0},
-    {"LB, sum of 64", EXAMPLE, {ANDI_8(0x3E), OR_8, LB_9 | 1, 0, LAST_BUNDLE}, 0, NONE},
+    {"LB, sum of 64", EXAMPLE, {ANDI_8(0x1F), OR_8, LB_9 | 0x20, 0, LAST_BUNDLE}, 0, NONE},
     {"LB, sum of 65 by the offset", EXAMPLE, {ANDI_8(0x3F), OR_8, LB_9 | 1, 0, LAST_BUNDLE}, 22, 0},
     {"LB, sum of 65 by the mask", EXAMPLE, {ANDI_8(0x40), OR_8, LB_9, 0, LAST_BUNDLE}, 22, 0},
     {"SW, sum of 68 by the offset", EXAMPLE, {ANDI_8(0x3C), OR_8, SW_9 | 4, 0, LAST_BUNDLE}, 22, 0},
@@ -255,10 +256,100 @@ static const struct module_case guard_cases[] = {
     {"JR with OR 8,8,26", EXAMPLE, {ANDI_8(0x3F), OR_8, 0x01000008, 0, LAST_BUNDLE}, 13, 2},
 };
 
+/* And for ticket 7, in the same way. */
+#define DATA_OF(size) 196608, 0x10000, 32, 0x20000, size, 32
+#define FIRST(mask, access) {ANDI_8(mask), OR_8, access, 0, LAST_BUNDLE}
+
+static const struct module_case hole_cases[] = {
+    {"SW, mask 0x34", EXAMPLE, FIRST(0x34, SW_9), 25, 0},
+    {"SW, mask 0x3C", EXAMPLE, FIRST(0x3C, SW_9), 0, NONE},
+    {"SW, mask 0x30", EXAMPLE, FIRST(0x30, SW_9), 25, 0},
+    {"SW, mask 0x20", EXAMPLE, FIRST(0x20, SW_9), 25, 0},
+    {"SW, mask 0x38", EXAMPLE, FIRST(0x38, SW_9), 25, 0},
+    {"SW, mask 0x1C", EXAMPLE, FIRST(0x1C, SW_9), 0, NONE},
+    {"SW, mask 0x1C and offset 0x20", EXAMPLE, FIRST(0x1C, SW_9 | 0x20), 0, NONE},
+    {"SW, mask 0x34 and offset 8", EXAMPLE, FIRST(0x34, SW_9 | 8), 25, 0},
+    {"SW, mask 0", EXAMPLE, FIRST(0, SW_9), 0, NONE},
+    {"SW, mask 0 and offset 0x3C", EXAMPLE, FIRST(0, SW_9 | 0x3C), 0, NONE},
+    {"SW, mask 4", EXAMPLE, FIRST(4, SW_9), 0, NONE},
+    {"SW, mask 8", EXAMPLE, FIRST(8, SW_9), 25, 0},
+    {"SW, mask 0xC", EXAMPLE, FIRST(0xC, SW_9), 0, NONE},
+    {"SH, mask 0", EXAMPLE, FIRST(0, SH_9), 0, NONE},
+    {"SH, mask 2", EXAMPLE, FIRST(2, SH_9), 0, NONE},
+    {"SH, mask 4", EXAMPLE, FIRST(4, SH_9), 25, 0},
+    {"SH, mask 0x3C", EXAMPLE, FIRST(0x3C, SH_9), 25, 0},
+    {"SH, mask 0x3E", EXAMPLE, FIRST(0x3E, SH_9), 0, NONE},
+    {"LB, mask 0", EXAMPLE, FIRST(0, LB_9), 0, NONE},
+    {"LB, mask 1", EXAMPLE, FIRST(1, LB_9), 0, NONE},
+    {"LB, mask 2", EXAMPLE, FIRST(2, LB_9), 25, 0},
+    {"LB, mask 3", EXAMPLE, FIRST(3, LB_9), 0, NONE},
+    {"LB, mask 0x3C", EXAMPLE, FIRST(0x3C, LB_9), 25, 0},
+    {"LB, mask 0x3E", EXAMPLE, FIRST(0x3E, LB_9), 25, 0},
+    {"LB, mask 0x3F", EXAMPLE, FIRST(0x3F, LB_9), 0, NONE},
+    {"LBU, mask 0x1F", EXAMPLE, FIRST(0x1F, 0x91090000), 0, NONE},
+    {"LBU, mask 0x20", EXAMPLE, FIRST(0x20, 0x91090000), 25, 0},
+    {"SB, mask 0x3F", EXAMPLE, FIRST(0x3F, 0xA1090000), 0, NONE},
+    {"SB, mask 0x2F", EXAMPLE, FIRST(0x2F, 0xA1090000), 25, 0},
+    {"LH, mask 0x1E", EXAMPLE, FIRST(0x1E, 0x85090000), 0, NONE},
+    {"LH, mask 0x1C", EXAMPLE, FIRST(0x1C, 0x85090000), 25, 0},
+    {"LHU, mask 6", EXAMPLE, FIRST(6, 0x95090000), 0, NONE},
+    {"LHU, mask 0xA", EXAMPLE, FIRST(0xA, 0x95090000), 25, 0},
+    {"LW, mask 0x3C", EXAMPLE, FIRST(0x3C, 0x8D090000), 0, NONE},
+    {"LW, mask 0x34", EXAMPLE, FIRST(0x34, 0x8D090000), 25, 0},
+    {"LL, mask 0x3C", EXAMPLE, FIRST(0x3C, 0xC1090000), 0, NONE},
+    {"LL, mask 0x2C", EXAMPLE, FIRST(0x2C, 0xC1090000), 25, 0},
+    {"SC, mask 0x3C", EXAMPLE, FIRST(0x3C, 0xE1090000), 0, NONE},
+    {"SC, mask 0x18", EXAMPLE, FIRST(0x18, 0xE1090000), 25, 0},
+    {"LB, mask 0xFFFF", DATA_OF(65536), FIRST(0xFFFF, LB_9), 0, NONE},
+    {"LB, mask 0xFFFE", DATA_OF(65536), FIRST(0xFFFE, LB_9), 25, 0},
+    {"LB, mask 0x8000", DATA_OF(65536), FIRST(0x8000, LB_9), 25, 0},
+    {"LB, mask 0x7FFF and offset 0x7FFF", DATA_OF(65536), FIRST(0x7FFF, LB_9 | 0x7FFF), 0, NONE},
+    {"SH, mask 0xFFFE", DATA_OF(65536), FIRST(0xFFFE, SH_9), 0, NONE},
+    {"SH, mask 0xFFFC", DATA_OF(65536), FIRST(0xFFFC, SH_9), 25, 0},
+    {"SW, mask 0xFFFC", DATA_OF(65536), FIRST(0xFFFC, SW_9), 0, NONE},
+    {"SW, mask 0x7FFC", DATA_OF(65536), FIRST(0x7FFC, SW_9), 0, NONE},
+    {"SW, mask 0x8000", DATA_OF(65536), FIRST(0x8000, SW_9), 25, 0},
+    {"SW, mask 0 of 4 bytes", DATA_OF(4), FIRST(0, SW_9), 0, NONE},
+    {"SW, mask 0x34 of 128 bytes", DATA_OF(128), FIRST(0x34, SW_9), 25, 0},
+    {"SW, mask 0x40 of 128 bytes", DATA_OF(128), FIRST(0x40, SW_9), 25, 0},
+    {"SW in the fourth word", EXAMPLE, {0, ANDI_8(0x34), OR_8, SW_9, LAST_BUNDLE}, 25, 1},
+    {"22 before 25: mask no multiple", EXAMPLE, FIRST(0x36, SW_9), 22, 0},
+    {"22 before 25: mask too large", EXAMPLE, FIRST(0x40, SW_9), 22, 0},
+    {"22 before 25: offset no multiple", EXAMPLE, FIRST(0x34, SW_9 | 2), 22, 0},
+    {"22 before 25: offset negative", EXAMPLE, FIRST(0x34, SW_9 | 0xFFFC), 22, 0},
+    {"22 before 25: sum of 68", EXAMPLE, FIRST(0x34, SW_9 | 0xC), 22, 0},
+    {"22 alone: mask 0x7C", EXAMPLE, FIRST(0x7C, SW_9), 22, 0},
+    {"12 before 25: ORI for ANDI", EXAMPLE, {0x35080034, OR_8, SW_9, 0, LAST_BUNDLE}, 12, 2},
+    {"12 before 25: OR 8,8,27", EXAMPLE, {ANDI_8(0x34), 0x011B4025, SW_9, 0, LAST_BUNDLE}, 12, 2},
+    {"12 before 25: base is 9", EXAMPLE, FIRST(0x34, 0xAD290000), 12, 2},
+    {"12 before 25: SW in the next bundle", EXAMPLE, {0, 0, ANDI_8(0x34), OR_8, SW_9, 0, 0x08004004, 0}, 12, 4},
+    {"12, and then 25", EXAMPLE, {SW_9, ANDI_8(0x34), OR_8, SW_9, LAST_BUNDLE}, 12, 0},
+    {"25, and then 12", EXAMPLE, {ANDI_8(0x34), OR_8, SW_9, SW_9, LAST_BUNDLE}, 25, 0},
+    {"22, and then 25", EXAMPLE, {ANDI_8(0x3F), OR_8, SW_9, 0, ANDI_8(0x34), OR_8, SW_9, 0}, 22, 0},
+    {"25, and then 22", EXAMPLE, {ANDI_8(0x34), OR_8, SW_9, 0, ANDI_8(0x3F), OR_8, SW_9, 0}, 25, 0},
+    {"25, and then no instruction", EXAMPLE, {ANDI_8(0x34), OR_8, SW_9, 0xFFFFFFFF, LAST_BUNDLE}, 25, 0},
+    {"no instruction, and then 25", EXAMPLE, {0xFFFFFFFF, ANDI_8(0x34), OR_8, SW_9, LAST_BUNDLE}, 8, 0},
+    {"25 before 16", EXAMPLE, {ANDI_8(0x34), OR_8, SW_9, 0, 0, 0, 0, 0}, 25, 0},
+    {"LW 26, mask 0x34", EXAMPLE, FIRST(0x34, 0x8D1A0000), 10, 2},
+    {"JR, mask 0x18", EXAMPLE, {ANDI_8(0x18), 0x011B4025, 0x01000008, 0, LAST_BUNDLE}, 13, 2},
+};
+
+/* JR and JALR keep their masks, in 64 bytes of code with a jump in the last word but one. The profile refuses them by 20. */
+#define JUMP_OF(mask, jump) \
+    196608, 0x10000, 64, 0x20000, 64, 64, {ANDI_8(mask), 0x011B4025, jump, 0, 0, 0, 0, 0, 0, 0, 0, 0, 0, 0, 0x08004000, 0}
+
+static const struct module_case jump_cases[] = {
+    {"JR, mask 0x30", JUMP_OF(0x30, 0x01000008), 0, NONE},
+    {"JR, mask 0x20", JUMP_OF(0x20, 0x01000008), 0, NONE},
+    {"JR, mask 0x10", JUMP_OF(0x10, 0x01000008), 0, NONE},
+    {"JALR, mask 0x20", JUMP_OF(0x20, 0x0100F809), 0, NONE},
+    {"JALR, mask 0x34", JUMP_OF(0x34, 0x0100F809), 13, 2},
+};
+
 static void try_module(const struct profile *p, const struct module_case *c)
 {
     static struct module m;
-    uint8_t image[32];
+    uint8_t image[4 * MOST_CASE_WORDS];
     struct em_module e = {c->memory_length, c->code_base, c->code_size, c->data_base, c->data_size, image, c->image_length};
     uint32_t place;
     m = (struct module){c->memory_length, c->code_base, c->code_size, c->data_base, c->data_size, c->image_length, 0, {0}};
@@ -311,8 +402,12 @@ void test_documents(void)
         try_module(&straight, &straight_cases[i]);
     for (size_t i = 0; i < 2 * COUNT(guard_cases); i++)
         try_module(i % 2 ? &straight : &usual, &guard_cases[i / 2]);
+    for (size_t i = 0; i < 2 * COUNT(hole_cases); i++)
+        try_module(i % 2 ? &straight : &usual, &hole_cases[i / 2]);
+    for (size_t i = 0; i < COUNT(jump_cases); i++)
+        try_module(&usual, &jump_cases[i]);
     other_refusals();
-    end_part("%zu steps and %zu modules with document 01's answers, %zu accesses, %zu divisions, %zu straight-through modules and %zu guards with "
-             "document 02's", COUNT(step_cases) + 2, COUNT(module_cases), COUNT(access_cases), COUNT(division_cases), COUNT(straight_cases),
-             COUNT(guard_cases));
+    end_part("%zu steps and %zu modules with document 01's answers, %zu accesses, %zu divisions, %zu straight-through modules, %zu guards and %zu "
+             "masks with document 02's", COUNT(step_cases) + 2, COUNT(module_cases), COUNT(access_cases), COUNT(division_cases),
+             COUNT(straight_cases), COUNT(guard_cases), COUNT(hole_cases) + COUNT(jump_cases));
 }

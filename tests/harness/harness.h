@@ -101,7 +101,7 @@ struct module {
 void copy_module(struct module *to, const struct module *from);
 
 /* An accepted module in a random layout, with at most so many bytes of memory outside code and data; and a straight-through one. And new words,
-   `count` of them, for the layout that a module has: they keep rules 8 to 16 and 22, also where the layout breaks one of 1 to 7. */
+   `count` of them, for the layout that a module has: they keep rules 8 to 16, 22 and 25, also where the layout breaks one of 1 to 7. */
 typedef void maker(struct module *m, uint32_t most_memory);
 maker make_accepted, make_straight;
 void make_words(struct module *m, uint32_t count);
@@ -119,6 +119,7 @@ uint32_t ordinary_word(void);                      /* an instruction that needs 
 uint32_t word_with_registers(uint32_t kind);       /* a random word of the kind */
 uint32_t direct_word(void);                        /* a branch or jump whose target is still to be chosen */
 uint32_t to_word(const struct module *m, uint32_t word, uint32_t at, uint32_t target); /* the word with that target */
+uint32_t largest_reach(uint32_t width, uint32_t size); /* the largest power of two up to the data's size that mask and width can be */
 void put_access(struct module *m, uint32_t at, uint32_t kind);        /* three words: a fitting guard and the access */
 void put_register_jump(struct module *m, uint32_t at, uint32_t kind); /* the same for JR or JALR */
 void choose_targets(struct module *m, uint32_t count);                /* allowed ones, for all branches and jumps among the words */

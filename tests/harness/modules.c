@@ -112,14 +112,25 @@ static void put_guard(struct module *m, uint32_t at, uint32_t r, uint32_t mask, 
     m->words[at + 1] = word_of(OR, r, base, r, 0);
 }
 
-/* The sum of mask and offset is often the largest, and often one of them is 0, so that the ends of the data are met. */
+uint32_t largest_reach(uint32_t width, uint32_t size)
+{
+    uint32_t reach = width;
+    while (2 * reach <= size && reach < 65536)
+        reach *= 2;
+    return reach;
+}
+
+/* Mask and width together are a power of two, the guard's reach, which is often the largest that the data has room for. The offset is often 0 or the
+   largest, so that the ends of the data are met. */
 void put_access(struct module *m, uint32_t at, uint32_t kind)
 {
-    uint32_t width = (uint32_t)access_width(kind), r = random_register(1), rest = m->data_size - width;
-    uint32_t largest = rest < 0xFFFF ? rest : 0xFFFF, sum = (below(2) ? largest : below(largest + 1)) / width * width;
-    uint32_t most = sum < 0x7FFF ? sum : 0x7FFF, offset = (below(3) ? below(2) * most : below(most + 1)) / width * width;
+    uint32_t width = (uint32_t)access_width(kind), r = random_register(1), reach = largest_reach(width, m->data_size);
+    for (uint32_t i = below(2) ? 0 : below(8); i > 0 && reach > width; i--)
+        reach /= 2;
+    uint32_t rest = m->data_size - reach, most = rest < 0x7FFF ? rest : 0x7FFF;
+    uint32_t offset = (below(3) ? below(2) * most : below(most + 1)) / width * width;
     uint32_t rt = written_by(kind, 1, 0) == 1 ? random_register(0) : source();
-    put_guard(m, at, r, sum - offset, DATA_REGISTER);
+    put_guard(m, at, r, reach - width, DATA_REGISTER);
     m->words[at + 2] = word_of(kind, r, rt, 0, offset);
 }
 

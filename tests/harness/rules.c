@@ -1,17 +1,17 @@
 /* Modules with exactly one rule broken, in every way that the tables list: the emulator says that no other is, and where. Then modules with
    two broken, of which the one that comes first is named. The same for straight-through modules: one of their own two rules broken, or of the
-   two of accesses, and then two of all. */
+   three of accesses, and then two of all. */
 #include <string.h>
 
 #include "harness.h"
 
-#define NUMBERS 23 /* above every rule's number */
+#define NUMBERS 26 /* above every rule's number */
 #define MOST_WAYS 300
 #define LEAST_OF_A_RULE 2000
 #define WANTED_OF_A_RULE 8000
 #define WANTED_OF_A_SLOW_WAY 3
 #define TRIES_FOR_ONE 100
-#define PAIRS 36000
+#define PAIRS 60000
 #define LEAST_OF_A_PAIR 20
 #define MOST_MEMORY 262144
 
@@ -26,8 +26,8 @@ static uint32_t way_count;
 
 /* The rules in the order in which two are broken: in it a change undoes few of those before it, as a changed layout gets new words, and a
    changed word new targets. */
-static const uint32_t usual_order[] = {2, 3, 4, 5, 6, 7, 8, 9, 10, 11, 12, 22, 13, 14, 16, 15, 1};
-static const uint32_t straight_order[] = {2, 3, 4, 5, 6, 7, 8, 9, 10, 11, 12, 22, 13, 14, 16, 15, 21, 20, 1};
+static const uint32_t usual_order[] = {2, 3, 4, 5, 6, 7, 8, 9, 10, 11, 12, 22, 25, 13, 14, 16, 15, 1};
+static const uint32_t straight_order[] = {2, 3, 4, 5, 6, 7, 8, 9, 10, 11, 12, 22, 25, 13, 14, 16, 15, 21, 20, 1};
 
 static void gather_ways(const struct way *table)
 {
@@ -150,17 +150,25 @@ static unsigned long try_combined(const struct profile *p, const struct combined
     return came;
 }
 
-/* 22 is tried after 1 to 12 where it is broken at one access, and each of 8 to 16 can come before it or after it at another word. */
-static void require_order_of_accesses(void)
+/* 22 and 25 are tried after 1 to 12 where they are broken at one access, and each of 8 to 16 can come before them or after them at another word. */
+static void require_order_beside(uint32_t of_access)
 {
     const char *what = "modules that break both, named by the first";
     for (uint32_t rule = 1; rule <= 16; rule++) {
         if (rule < 16)
-            require_both(what, counts.named, rule, 22);
+            require_both(what, counts.named, rule, of_access);
         if (rule >= 8)
-            require_both(what, counts.named, 22, rule);
+            require_both(what, counts.named, of_access, rule);
     }
-    same_number("modules that break 22, named 16", 0, counts.named[16][22]);
+    same_number("modules that break it, named 16", 0, counts.named[16][of_access]);
+}
+
+static void require_order_of_accesses(void)
+{
+    require_order_beside(22);
+    require_order_beside(25);
+    require_both("modules that break both, named by the first", counts.named, 22, 25);
+    require_both("modules that break both, named by the first", counts.named, 25, 22);
 }
 
 void test_rules(void)
@@ -172,19 +180,27 @@ void test_rules(void)
     unsigned long combined = try_combined(&usual, access_combined);
     try_pairs(&usual, usual_order, COUNT(usual_order));
     require_order_of_accesses();
-    end_part("%lu tried, in %u ways; those that break one rule alone, 22 %lu, 1 to 16:%s; more by one change %lu; %lu that break two, 12 named "
-             "before 22 %lu, 22 before 12 %lu", counts.tried, way_count, counts.found[22], listed(counts.found, 1, 16), combined, counts.pairs,
-             counts.named[12][22], counts.named[22][12]);
+    end_part("%lu tried, in %u ways; those that break one rule alone, 22 %lu, 25 %lu, 1 to 16:%s; more by one change %lu; %lu that break two, 12 "
+             "named before 22 %lu and 25 %lu, 22 before 12 %lu and 25 %lu, 25 before 12 %lu and 22 %lu",
+             counts.tried, way_count, counts.found[22], counts.found[25], listed(counts.found, 1, 16), combined, counts.pairs,
+             counts.named[12][22], counts.named[12][25], counts.named[22][12], counts.named[22][25], counts.named[25][12], counts.named[25][22]);
 }
 
-/* 20 is tried after 8 to 15 and 22 at a word, and before them at the next; then 16, then 21, which is never named beside another. */
+static void require_straight_order_beside(uint32_t of_access)
+{
+    const char *what = "modules that break both, named by the first";
+    require_both(what, counts.named, of_access, 20);
+    require_both(what, counts.named, 20, of_access);
+    require_both(what, counts.named, of_access, 21);
+    same_number("modules that break it, named 21", 0, counts.named[21][of_access]);
+}
+
+/* 20 is tried after 8 to 15, 22 and 25 at a word, and before them at the next; then 16, then 21, which is never named beside another. */
 static void require_order(void)
 {
     const char *what = "modules that break both, named by the first";
-    require_both(what, counts.named, 22, 20);
-    require_both(what, counts.named, 20, 22);
-    require_both(what, counts.named, 22, 21);
-    same_number("modules that break 22, named 21", 0, counts.named[21][22]);
+    require_straight_order_beside(22);
+    require_straight_order_beside(25);
     for (uint32_t rule = 1; rule <= 16; rule++) {
         if (rule < 16)
             require_both(what, counts.named, rule, 20);
@@ -208,8 +224,9 @@ void test_rules_straight(void)
     unsigned long combined = try_combined(&straight, straight_combined) + try_combined(&straight, access_combined);
     try_pairs(&straight, straight_order, COUNT(straight_order));
     require_order();
-    end_part("%lu tried, in %u ways; those that break 20 alone %lu, 21 alone %lu, 12 alone %lu, 22 alone %lu, more by one change %lu; %lu with two "
-             "changes: 20 named before a later 8 to 15:%s, 15 before 20 %lu, 20 before 16 %lu and 21 %lu, 16 before 21 %lu",
-             counts.tried, way_count - others, counts.found[20], counts.found[21], counts.found[12], counts.found[22], combined, counts.pairs,
-             listed(counts.named[20], 8, 15), counts.named[15][20], counts.named[20][16], counts.named[20][21], counts.named[16][21]);
+    end_part("%lu tried, in %u ways; those that break 20 alone %lu, 21 alone %lu, 12 alone %lu, 22 alone %lu, 25 alone %lu, more by one change %lu; "
+             "%lu with two changes: 20 named before a later 8 to 15:%s, 15 before 20 %lu, 20 before 16 %lu and 21 %lu, 16 before 21 %lu",
+             counts.tried, way_count - others, counts.found[20], counts.found[21], counts.found[12], counts.found[22], counts.found[25], combined,
+             counts.pairs, listed(counts.named[20], 8, 15), counts.named[15][20], counts.named[20][16], counts.named[20][21],
+             counts.named[16][21]);
 }

@@ -1,14 +1,15 @@
-/* Ways to break rule 12, 13 or 22 and no other: an access, JR or JALR whose guard is nearly right. */
+/* Ways to break rule 12, 13, 22 or 25 and no other, or 22 and 25 at one access: an access, JR or JALR whose guard is nearly right. */
 #include "harness.h"
 
 enum {
     NO_GUARD, EARLIER_BUNDLE, BETWEEN, OTHER_ORDER, NO_ANDI, NO_OR, ZERO, BASE_IS_26, BASE_IS_27, OTHER_BASE, OTHER_ANDI, OTHER_SOURCE,
-    OTHER_RESULT, OTHER_AREA, SWAPPED, MASK_NO_MULTIPLE, MASK_TOO_LARGE, OFFSET_NO_MULTIPLE, OFFSET_NEGATIVE, OFFSET_ODD_NEGATIVE,
-    OFFSET_TOO_LARGE, SUM_PAST_16_BITS, ALL_NUMBERS
+    OTHER_RESULT, OTHER_AREA, SWAPPED, MASK_NO_MULTIPLE, MASK_TOO_LARGE, REACH_TOO_LARGE, OFFSET_NO_MULTIPLE, OFFSET_NEGATIVE,
+    OFFSET_ODD_NEGATIVE, OFFSET_TOO_LARGE, SUM_PAST_16_BITS, ONE_HOLE, LOW_HOLES, TOP_BIT_ALONE, ANY_HOLES, UP_TO_THE_END, ALL_NUMBERS
 };
-/* A way, the kind that is guarded, and of wrong words also wrong numbers. */
+/* A way, the kind that is guarded, of wrong words also wrong numbers, and of wrong numbers also a mask with holes. */
 #define OF_KIND(way, kind) ((way) | (kind) << 8)
 #define WRONG_NUMBERS 0x10000u
+#define WITH_HOLES 0x20000u
 #define ANY_ACCESS 0
 
 /* The guard and what is guarded: three words in a fresh bundle, where another fresh one follows. */
@@ -84,26 +85,45 @@ static int take_off(const struct nearly *n, uint32_t *word, uint32_t number)
     return could;
 }
 
+/* Gives whether the mask fits its field. */
+static int set_mask(const struct nearly *n, uint32_t mask)
+{
+    n->w[0] = with_field(n->w[0], CONSTANT, mask);
+    return mask <= CONSTANT;
+}
+
+/* A mask with holes, which keeps all rules but 25: some bits of a whole one are missing below its highest, or it goes up to the data's end. Gives
+   whether that could be. */
+static int put_holes(const struct nearly *n, uint32_t way)
+{
+    uint32_t mask = mask_of(n), below_highest = mask ? (mask + n->unit) / 2 - n->unit : 0, bits = 0;
+    while (n->unit << bits <= below_highest)
+        bits++;
+    uint32_t hole = n->unit << below(bits);
+    switch (way) {
+    case ONE_HOLE: return (hole & below_highest) && set_mask(n, mask & ~hole);
+    case LOW_HOLES: return hole <= below_highest && set_mask(n, mask & ~(2 * hole - 1));
+    case TOP_BIT_ALONE: return below_highest && set_mask(n, mask & ~below_highest);
+    case UP_TO_THE_END: return set_mask(n, n->size - offset_of(n) - n->unit);
+    default: return below_highest && set_mask(n, mask & ~(below_highest & next_random()));
+    }
+}
+
 /* The numbers of the guard, each wrong in one respect only, but for the last way, where all are wrong. Gives whether that could be. */
 static int change_numbers(const struct nearly *n, uint32_t way)
 {
     uint32_t mask = mask_of(n), offset = offset_of(n), rest = n->size - offset, below_zero = 0 - n->unit * (1 + below(0x8000 / n->unit));
     switch (way) {
     case MASK_NO_MULTIPLE: return take_off(n, &n->w[0], mask);
-    case MASK_TOO_LARGE:
-        n->w[0] = with_field(n->w[0], CONSTANT, rest);
-        return rest <= CONSTANT;
+    case MASK_TOO_LARGE: return set_mask(n, rest);
+    case REACH_TOO_LARGE: return set_mask(n, 2 * largest_reach(n->unit, rest) - n->unit);
     case OFFSET_NO_MULTIPLE: return take_off(n, &n->w[2], offset);
     case OFFSET_NEGATIVE: set_offset(n, below(2) ? below_zero : 0 - n->unit * (1 + below(4))); return 1;
     case OFFSET_ODD_NEGATIVE: set_offset(n, below_zero + 1 + below(n->unit - 1)); return n->unit > 1;
-    case SUM_PAST_16_BITS:
-        n->w[0] = with_field(n->w[0], CONSTANT, 0x10000 - offset);
-        return offset > 0;
-    case ALL_NUMBERS:
-        n->w[0] |= CONSTANT;
-        set_offset(n, 0x8001 + 2 * below(0x4000));
-        return 1;
-    default: set_offset(n, n->size - mask); return n->size - mask <= 0x7FFF;
+    case OFFSET_TOO_LARGE: set_offset(n, n->size - mask); return n->size - mask <= 0x7FFF;
+    case SUM_PAST_16_BITS: set_offset(n, n->unit); return set_mask(n, 0x10000 - n->unit);
+    case ALL_NUMBERS: set_offset(n, 0x8001 + 2 * below(0x4000)); return set_mask(n, CONSTANT);
+    default: return put_holes(n, way);
     }
 }
 
@@ -144,7 +164,7 @@ static int change_guard(struct module *m, uint32_t detail)
     at += moved ? 0 : below(2);
     uint32_t unit = put_guarded(m, at, kind);
     struct nearly n = {&m->words[at], unit, unit == 16 ? m->code_size : m->data_size, other_register(&m->words[at])};
-    int could = 1;
+    int could = !(detail & WITH_HOLES) || put_holes(&n, ANY_HOLES);
     if (detail & WRONG_NUMBERS)
         change_some_numbers(&n);
     if (moved)
@@ -152,7 +172,7 @@ static int change_guard(struct module *m, uint32_t detail)
     else if (way < MASK_NO_MULTIPLE)
         change_registers(&n, way);
     else
-        could = change_numbers(&n, way);
+        could = change_numbers(&n, way) && could;
     choose_targets(m, m->code_size / 4);
     return could;
 }
@@ -192,17 +212,24 @@ static int load_into_base(struct module *m, uint32_t detail)
 #define MULTIPLES(way, name) \
     NUMBERS(way, ANY_ACCESS, "access, " name), NUMBERS(way, SH, "SH, " name), NUMBERS(way, LW, "LW, " name)
 #define WIDTHS(way, name) MULTIPLES(way, name), NUMBERS(way, LB, "LB, " name)
+#define HOLE(way, kind, name) {25, name, change_guard, OF_KIND(way, kind), 0}
+#define HOLES(way, name) \
+    HOLE(way, ANY_ACCESS, "access, " name), HOLE(way, LBU, "LBU, " name), HOLE(way, SH, "SH, " name), HOLE(way, LL, "LL, " name)
 
 const struct way access_ways[] = {
     FOR_WORDS(ACCESS),
-    MULTIPLES(MASK_NO_MULTIPLE, "mask no multiple"),
     MULTIPLES(OFFSET_NO_MULTIPLE, "offset no multiple"),
     WIDTHS(OFFSET_NEGATIVE, "offset negative, and a multiple"),
     MULTIPLES(OFFSET_ODD_NEGATIVE, "offset negative, and no multiple"),
-    WIDTHS(MASK_TOO_LARGE, "mask too large by a width"),
+    WIDTHS(REACH_TOO_LARGE, "mask whole and too large"),
     WIDTHS(OFFSET_TOO_LARGE, "offset too large by a width"),
     WIDTHS(SUM_PAST_16_BITS, "sum of 65,536 and a width"),
-    WIDTHS(ALL_NUMBERS, "mask too large, offset negative, and neither a multiple"),
+    NUMBERS(ALL_NUMBERS, LB, "LB, mask whole and too large, and offset negative"),
+    HOLES(ONE_HOLE, "one bit of the mask missing"),
+    HOLES(LOW_HOLES, "the lowest bits of the mask missing"),
+    HOLES(TOP_BIT_ALONE, "all but the highest bit of the mask missing"),
+    HOLES(ANY_HOLES, "any bits of the mask missing"),
+    HOLES(UP_TO_THE_END, "mask with a hole, up to the data's end"),
     {0, NULL, NULL, 0, 0},
 };
 
@@ -213,8 +240,19 @@ const struct way jump_ways[] = {
     {0, NULL, NULL, 0, 0},
 };
 
+#define BOTH(way, kind, name) {{22, name, change_guard, OF_KIND(way, kind), 0}, RULE(25)}
+
 const struct combined access_combined[] = {
     {{10, "load into 26 or 27 with another ANDI", load_into_base, OTHER_ANDI, 0}, RULE(12)},
-    {{10, "load into 26 or 27 with wrong numbers", load_into_base, ALL_NUMBERS, 0}, RULE(22)},
+    {{10, "load into 26 or 27 with a whole mask and wrong numbers", load_into_base, ALL_NUMBERS, 0}, RULE(22)},
+    {{10, "load into 26 or 27 with a hole in the mask", load_into_base, ALL_NUMBERS, 0}, RULE(25)},
+    {{10, "load into 26 or 27 with a hole and wrong numbers", load_into_base, ALL_NUMBERS, 0}, RULE(22) | RULE(25)},
+    BOTH(MASK_NO_MULTIPLE, SH, "SH, mask no multiple"),
+    BOTH(MASK_NO_MULTIPLE, LW, "LW, mask no multiple"),
+    BOTH(MASK_TOO_LARGE, ANY_ACCESS, "access, mask with a hole and too large by a width"),
+    BOTH(ALL_NUMBERS, SC, "SC, mask no multiple and too large, and offset negative"),
+    BOTH(OFFSET_NO_MULTIPLE | WITH_HOLES, LHU, "LHU, mask with holes, and offset no multiple"),
+    BOTH(OFFSET_NEGATIVE | WITH_HOLES, ANY_ACCESS, "access, mask with holes, and offset negative"),
+    BOTH(OFFSET_TOO_LARGE | WITH_HOLES, ANY_ACCESS, "access, mask with holes, and offset too large"),
     {{0, NULL, NULL, 0, 0}, 0},
 };

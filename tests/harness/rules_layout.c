@@ -118,7 +118,7 @@ static int make_overlap(struct module *m, uint32_t detail)
 
 enum { LONGER_BY_BYTES, LONGER_BY_WORDS, SHORTER_BY_BYTES, SHORTER_BY_WORDS };
 
-/* The words that the image has keep rules 8 to 16 and 22 by themselves. */
+/* The words that the image has keep rules 8 to 16, 22 and 25 by themselves. */
 static int change_image(struct module *m, uint32_t detail)
 {
     uint32_t words = m->code_size / 4, more = 1 + below(2), bytes = 1 + below(3);

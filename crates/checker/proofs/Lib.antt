@@ -7,3 +7,4 @@ pub mod Whole
 pub mod Examples
 pub mod Verdicts
 pub mod Guarded
+pub mod Cells

@@ -29,7 +29,7 @@ use Rattle.isa.proofs.Codes.{key_of, every}
 use Rattle.isa.proofs.Same.{is, same_kind, same_test}
 use Rattle.layout.specs.declared.Layout.{Layout}
 use Rattle.layout.specs.Layout.{is_power, is_code_size, is_data_size, is_placed, is_apart}
-use Rattle.layout.proofs.Sizes.{Exponent, exponent_of, power_holds, at_least}
+use Rattle.layout.proofs.Sizes.{Exponent, exponent_of, power_holds, at_least, one_bit}
 use Rattle.view.specs.declared.View.{View}
 use Rattle.view.specs.View.{is_barred, is_relative, is_region, is_register, seen, view_of, word_view, passes, is_branch, is_jump, needs_guard}
 use Rattle.view.specs.Guard as G
@@ -256,6 +256,10 @@ fits_code_law : (size m : ℕ) → Says (L.FitsCode size m) (C.fits_code size m)
 unfolding C.fits_code
 fits_code_law size m = ands (eqs _ _) (les _ _)
 
+pub contiguous_law : (m w : ℕ) → Says ((e : ℕ) × (m + w ≡ 2 ^ e)) (C.is_contiguous m w)
+unfolding C.is_contiguous
+contiguous_law m w = let o = one_bit (m + w) in saying o.0 o.1 (eqs _ _)
+
 module _ (img : List ℕ) (i r : ℕ) where
   -- the mask is the value that is read
   mask_value : {m : ℕ} → L.Masks img i r m → m ≡ mask_in (C.word_at img i)
@@ -313,6 +317,12 @@ module _ (l : Layout) (img : List ℕ) (i : ℕ) where
       every_word img i _ (C.broken22 l.data_size img i)
       (λ x. imps (accesses (width_accessed x.kind)) (fitting img i 26 x.rs _ _ (λ m. fits_data_law _ m _ _)))
 
+  pub rule25 : Denies (L.Rule25 img i) (passes (C.broken25 img i) (C.view_at img i))
+  unfolding seen C.broken25
+  rule25 =
+      every_word img i _ (C.broken25 img i)
+      (λ x. imps (accesses (width_accessed x.kind)) (fitting img i 26 x.rs _ _ (λ m. contiguous_law m _)))
+
   rule13 : Denies (L.Rule13 l img i) (passes (C.broken13 l.code_size img i) (C.view_at img i))
   unfolding seen C.broken13
   rule13 =
@@ -350,10 +360,11 @@ module _ (l : Layout) (img : List ℕ) (i : ℕ) where
       (picks (eqb n 11) (rule11 img i)
       (picks (eqb n 12) (rule12 img i)
       (picks (eqb n 22) rule22
+      (picks (eqb n 25) rule25
       (picks (eqb n 13) rule13
       (picks (eqb n 14) (rule14 img i)
       (picks (eqb n 15) rule15
-      (picks (eqb n 16) (rule16 img i) (keeps tt))))))))))
+      (picks (eqb n 16) (rule16 img i) (keeps tt)))))))))))
 
 pub rule_tests : (l : Layout) (len : ℕ) (img : List ℕ) (t : Trial) → Denies (Keeps l len img t) (is_broken l len img t)
 rule_tests l len img t = picks (leb t.number 7) (file_rules l len img t.number) (word_rules l img t.word t.number)

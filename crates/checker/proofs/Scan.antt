@@ -21,7 +21,7 @@ use Rattle.refusal.specs.Refusal.{number_of, refused_number, refused_when}
 use Rattle.refusal.proofs.Numbers.{number_some}
 use Rattle.word.proofs.Choice.{both, by_test, by_zero}
 use Rattle.checker.specs.declared.verdict.Verdict.{Verdict}
-use Rattle.rules.specs.Rules.{Sized, word_at, view_at, view_before, broken10, broken11, broken12, broken22, data_refusal, broken13, broken14, broken15}
+use Rattle.rules.specs.Rules.{Sized, word_at, view_at, view_before, broken10, broken11, broken12, broken22, broken25, data_refusal, broken13, broken14, broken15}
 use Rattle.checker.specs.Scan.{or_number, file_refusal, word_refusal, number_of_branch, number_of_word, SaysBranch, number_at, first_word, end_verdict, words_verdict, image_verdict, words_by}
 use Rattle.checker.specs.Check.{Trial, trial, verdict, said, no_place, trials_at, trials_after, in_turn, trials_by, is_word_broken, is_file_broken, broken_by, first_of, check_of, code_of, placed_of}
 use Rattle.checker.specs.Refusal.{All}
@@ -49,19 +49,20 @@ module _ (img : List ℕ) where
 abbrev pub given : (ℕ → Verdict) → Verdict → ℕ → Verdict
 given t x k = cond (eqb k 0) x (t k)
 
-pub ladder : (t : ℕ → Verdict) (x : Verdict) (a b c d e f g h i : Bool)
-    → cond a (t 8) (cond b (t 9) (cond c (t 10) (cond d (t 11) (cond e (t 12) (cond f (t 22) (cond g (t 13) (cond h (t 14) (cond i (t 15) x))))))))
-    ≡ given t x (cond a 8 (cond b 9 (cond c 10 (cond d 11 (or_number (cond e 12 (cond f 22 0)) (cond g 13 (cond h 14 (cond i 15 0))))))))
-ladder t x true b c d e f g h i = refl
-ladder t x false true c d e f g h i = refl
-ladder t x false false true d e f g h i = refl
-ladder t x false false false true e f g h i = refl
-ladder t x false false false false true f g h i = refl
-ladder t x false false false false false true g h i = refl
-ladder t x false false false false false false true h i = refl
-ladder t x false false false false false false false true i = refl
-ladder t x false false false false false false false false true = refl
-ladder t x false false false false false false false false false = refl
+pub ladder : (t : ℕ → Verdict) (x : Verdict) (a b c d e f g h i j : Bool)
+    → cond a (t 8) (cond b (t 9) (cond c (t 10) (cond d (t 11) (cond e (t 12) (cond f (t 22) (cond g (t 25) (cond h (t 13) (cond i (t 14) (cond j (t 15) x)))))))))
+    ≡ given t x (cond a 8 (cond b 9 (cond c 10 (cond d 11 (or_number (cond e 12 (cond f 22 (cond g 25 0))) (cond h 13 (cond i 14 (cond j 15 0))))))))
+ladder t x true b c d e f g h i j = refl
+ladder t x false true c d e f g h i j = refl
+ladder t x false false true d e f g h i j = refl
+ladder t x false false false true e f g h i j = refl
+ladder t x false false false false true f g h i j = refl
+ladder t x false false false false false true g h i j = refl
+ladder t x false false false false false false true h i j = refl
+ladder t x false false false false false false false true i j = refl
+ladder t x false false false false false false false false true j = refl
+ladder t x false false false false false false false false false true = refl
+ladder t x false false false false false false false false false false = refl
 
 -- ---- the loop of the code, whatever number a word has: i of n words are done
 
@@ -145,7 +146,7 @@ module _ (word : ℕ → ℕ → Bool) (at after : ℕ → List Trial) where
 
 -- ---- the words of the checker
 
--- the trials 8 to 15 and 22 of what a word is seen as, and the number that they give
+-- the trials 8 to 15, 22 and 25 of what a word is seen as, and the number that they give
 pub seen_ladder : (t : ℕ → Verdict) (x : Verdict) (l : Layout) (img : List ℕ) (i : ℕ) (after : Bool) (o : Option View)
     → cond (not (passes (λ v. true) o)) (t 8)
     (cond (passes (λ v. v.barred) o) (t 9)
@@ -153,14 +154,16 @@ pub seen_ladder : (t : ℕ → Verdict) (x : Verdict) (l : Layout) (img : List �
     (cond (passes broken11 o) (t 11)
     (cond (passes (broken12 img i) o) (t 12)
     (cond (passes (broken22 l.data_size img i) o) (t 22)
+    (cond (passes (broken25 img i) o) (t 25)
     (cond (passes (broken13 l.code_size img i) o) (t 13)
     (cond (passes (broken14 after) o) (t 14)
-    (cond (passes (broken15 l img i) o) (t 15) x))))))))
+    (cond (passes (broken15 l img i) o) (t 15) x)))))))))
     ≡ given t x (word_refusal l img i after o)
 unfolding data_refusal word_refusal
 seen_ladder t x l img i after None = refl
 seen_ladder t x l img i after (Some v) =
-    ladder t x false v.barred (broken10 v) (broken11 v) (broken12 img i v) (broken22 l.data_size img i v) (broken13 l.code_size img i v) (broken14 after v) (broken15 l img i v)
+    ladder t x false v.barred (broken10 v) (broken11 v) (broken12 img i v) (broken22 l.data_size img i v) (broken25 img i v) (broken13 l.code_size img i v)
+    (broken14 after v) (broken15 l img i v)
 
 module _ (l : Layout) (img : List ℕ) where
   word_first : (i : ℕ) → Gives (is_word_broken l img) trials_at trials_after i (word_refusal l img i (passes is_branch (view_before img i)) (view_at img i))
@@ -208,7 +211,7 @@ plain_none (Some v) h =
 
 module _ (of_branch : Layout → ℕ → View → ℕ) (l : Layout) (img : List ℕ) (i : ℕ) (after : Bool) where
   plain_zero : (o : Option View) → passes is_plain o ≡ true → 0 ≡ number_of_word of_branch l img i after o
-  unfolding number_of_word word_refusal broken10 broken11 broken12 broken22 data_refusal broken13 broken14 broken15
+  unfolding number_of_word word_refusal broken10 broken11 broken12 broken22 broken25 data_refusal broken13 broken14 broken15
   plain_zero None h = absurd (false≢true h)
   plain_zero (Some v) h =
       let b = both (not v.barred) _ h in

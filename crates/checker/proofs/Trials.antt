@@ -1,13 +1,16 @@
 -- Lists of trials: what holds of all of them, part by part, and of those of the words in turn.
 use Prim.Native.Nat.{ℕ, zero, suc, ◌+◌, ◌≤◌, ◌<◌}
-use mathlib.Core.Path.{◌≡◌}
+use mathlib.Core.Path.{◌≡◌, refl, subst}
 use mathlib.Core.Bool.{Bool}
 use mathlib.Core.List.{List, [], ◌∷◌, ◌++◌}
 use native.Mathlib.Omega.{arith}
 use native.Mathlib.Decide.{dec_lt}
 use Rattle.word.proofs.Choice.{by_test}
 use Rattle.checker.specs.declared.verdict.Verdict.{Verdict}
-use Rattle.checker.specs.Check.{Trial, said, accepted, in_turn, first_of}
+use Rattle.layout.specs.declared.Layout.{Layout}
+use Rattle.checker.specs.Check.{Trial, trial, said, accepted, no_place, trials_at, trials_after, in_turn, trials_by, first_of}
+use Rattle.rules.specs.Not.{Not}
+use Rattle.checker.specs.Lawful.{words_in}
 use Rattle.checker.specs.Refusal.{All}
 
 module _ {A : Type 0} (P : A → Type 0) where
@@ -47,3 +50,36 @@ module _ (P : Trial → Type 0) (at after : ℕ → List Trial) where
 pub first_of_law : (P : Verdict → Type 0) (b : Trial → Bool) (ts : List Trial) → P accepted → All (λ t. P (said t)) ts → P (first_of b ts)
 first_of_law P b [] a h = a
 first_of_law P b (t ∷ ts) a h = by_test P (b t) (λ _. h.0) (λ _. first_of_law P b ts a h.1)
+
+-- ---- 25 of a word is tried directly after 22 of that word
+
+-- of ts, with s tried before them
+abbrev pub After : Trial → List Trial → Type 0
+After s [] = Unit {0}
+After s (t ∷ ts) = (t.number ≡ 25 → s ≡ trial 22 t.word) × After t ts
+
+-- so that 22 is kept at a word where 25 is the first that is broken
+pub before_25 : (P : Trial → Type 0) (s t : Trial) (before after : List Trial) → After s (before ++ (t ∷ after)) → P s → All P before → t.number ≡ 25
+    → P (trial 22 t.word)
+before_25 P s t [] after a p h e = subst P (a.0 e) p
+before_25 P s t (u ∷ before) after a p h e = before_25 P u t before after a.1 h.0 h.1 e
+
+other : (k : ℕ) {A : Type 0} → Not (k ≡ 25) → k ≡ 25 → A
+other k n e = absurd (n e)
+
+pub at_after : (i : ℕ) (ts : List Trial) → ((s : Trial) → After s ts) → (s : Trial) → After s (trials_at i ++ ts)
+at_after i ts h s =
+    (other 8 (omega arith), (other 9 (omega arith), (other 10 (omega arith), (other 11 (omega arith), (other 12 (omega arith), (other 22 (omega arith), (λ _. refl, (other 13 (omega arith), (other 14 (omega arith), (other 15 (omega arith), h (trial 15 i)))))))))))
+
+pub end_after : (i : ℕ) (s : Trial) → After s (trials_after i)
+end_after i s = (other 16 (omega arith), tt)
+
+module _ (at after : ℕ → List Trial) (word : (i : ℕ) (ts : List Trial) → ((s : Trial) → After s ts) → (s : Trial) → After s (at i ++ ts))
+    (end : (i : ℕ) (s : Trial) → After s (after i)) where
+  turn_after : (n i : ℕ) (s : Trial) → After s (in_turn at after n i)
+  turn_after zero i = end i
+  turn_after (suc n) i = word i (in_turn at after n (suc i)) (turn_after n (suc i))
+
+  pub all_after : (l : Layout) → After (trial 0 no_place) (trials_by at after l)
+  all_after l =
+      (other 1 (omega arith), (other 2 (omega arith), (other 3 (omega arith), (other 4 (omega arith), (other 5 (omega arith), (other 6 (omega arith), (other 7 (omega arith), turn_after (words_in l) 0 (trial 7 no_place))))))))

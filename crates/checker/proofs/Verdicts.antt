@@ -1,10 +1,11 @@
 -- What verdicts there are: their numbers, the places that go with them, and that a module that is placed is never refused by 7.
 use Prim.Native.Nat.{ℕ, zero, suc, ◌≤◌, ◌<◌}
 use mathlib.Core.Path.{◌≡◌, refl, sym, subst, ◌∙◌}
-use mathlib.Core.Bool.{Bool}
+use mathlib.Core.Bool.{Bool, true, false, false≢true}
 use mathlib.Core.List.{List}
-use mathlib.Core.Logic.{inl, inr}
-use borrow.Author.Tests.{ne_eqb}
+use mathlib.Core.Logic.{◌⊎◌, inl, inr, ⊎_elim}
+use lib.Dec.{eqb}
+use borrow.Author.Tests.{ne_eqb, eqb-true, eqb-false}
 use native.Mathlib.Nat.{zero-add}
 use native.Mathlib.Omega.{arith}
 use native.Mathlib.Decide.{dec_lt}
@@ -14,7 +15,7 @@ use Rattle.layout.specs.Layout.{layout_refusal}
 use Rattle.layout.proofs.Kept.{kept}
 use Rattle.rules.specs.Not.{Not}
 use Rattle.checker.specs.declared.verdict.Verdict.{Verdict}
-use Rattle.checker.specs.Check.{Trial, trial, verdict, said, no_place, trials_at, trials_after, in_turn, trials_by, is_word_broken, broken_by, first_of, check_of, code_of, placed_of}
+use Rattle.checker.specs.Check.{Trial, trial, verdict, of_mask, said, no_place, trials_at, trials_after, in_turn, trials_by, is_word_broken, broken_by, first_of, check_of, code_of, placed_of}
 use Rattle.checker.specs.Scan.{file_refusal}
 use Rattle.checker.specs.Lawful.{words_in}
 use Rattle.checker.specs.Refusal.{All, Told}
@@ -41,28 +42,43 @@ module _ (P : Verdict → Type 0) (word : ℕ → ℕ → Bool) (at after : ℕ 
 -- ---- numbers and places
 
 module _ (l : Layout) where
-  pub file_told : (k : ℕ) → k < 8 → Told l (verdict k no_place)
-  file_told k h = record { number_is = inl (omega arith); no_word = λ _. refl; a_word = λ p. absurd (omega (arith, h, p)); a_mask = λ e. absurd (omega (arith, h, e)) }
+  -- the first sixteen rules are not of a guard's mask
+  not_of_mask : (k : ℕ) → k ≤ 16 → of_mask k ≡ false
+  not_of_mask k h = rw (ne_eqb k 22 (λ e. omega (arith, h, e)), ne_eqb k 25 (λ e. omega (arith, h, e))) refl
 
-  -- 22 names the ANDI
-  andi_told : (i : ℕ) → 16 ≤ l.code_size → i < words_in l → Told l (said (trial 22 i))
-  andi_told i h p =
-      record { number_is = inr refl; no_word = λ r. absurd (omega (arith, r)); a_word = λ _. omega (arith, p); a_mask = λ _. omega (arith, h, p) }
+  pub file_told : (k : ℕ) → k < 8 → Told l (verdict k no_place)
+  file_told k h = record { number_is = inl (omega arith); no_word = λ _. refl; a_word = λ p. absurd (omega (arith, h, p)); a_mask = λ e. absurd (false≢true (sym (not_of_mask k (omega (arith, h))) ∙ e)) }
+
+  -- 22 and 25 name the ANDI
+  andi_told : (k i : ℕ) → (k ≡ 22) ⊎ (k ≡ 25) → 16 ≤ l.code_size → i < words_in l → Told l (said (trial k i))
+  andi_told k i c h p = ⊎_elim (λ e. rw e (told 22 (inl refl) refl (omega arith))) (λ e. rw e (told 25 (inr refl) refl (omega arith))) c
+    where
+      told : (n : ℕ) → (n ≡ 22) ⊎ (n ≡ 25) → of_mask n ≡ true → 8 ≤ n → Told l (said (trial n i))
+      told n c e g =
+          rw e
+          (record { number_is = inr c; no_word = λ r. absurd (omega (arith, r, g)); a_word = λ _. omega (arith, p); a_mask = λ _. omega (arith, h, p) })
 
   -- all others name the word itself
   word_told : (k i : ℕ) → 8 ≤ k → k ≤ 16 → i < words_in l → Told l (said (trial k i))
   word_told k i p q h =
-      rw (ne_eqb k 22 (λ e. omega (arith, q, e)))
-      (record { number_is = inl q; no_word = λ r. absurd (omega (arith, p, r)); a_word = λ _. h; a_mask = λ e. absurd (omega (arith, q, e)) })
+      rw (not_of_mask k q)
+      (record { number_is = inl q; no_word = λ r. absurd (omega (arith, p, r)); a_word = λ _. h; a_mask = λ e. absurd (false≢true (sym (not_of_mask k q) ∙ e)) })
+
+  either : (k : ℕ) → (Not (k ≡ 22) → k ≡ 25) → (k ≡ 22) ⊎ (k ≡ 25)
+  either k f = go (eqb k 22) refl
+    where
+      go : (b : Bool) → eqb k 22 ≡ b → (k ≡ 22) ⊎ (k ≡ 25)
+      go true e = inl (eqb-true k 22 e)
+      go false e = inr (f (eqb-false k 22 e))
 
   abbrev ToldBy : Trial → Type 0
   ToldBy t = Told l (said t)
 
   pub at_told : (i : ℕ) → 16 ≤ l.code_size → i < words_in l → All ToldBy (trials_at i)
   at_told i h p =
-      implied (λ t. (8 ≤ t.number) × ((16 < t.number → t.number ≡ 22) × (t.word ≡ i))) ToldBy
+      implied (λ t. (8 ≤ t.number) × ((16 < t.number → Not (t.number ≡ 22) → t.number ≡ 25) × (t.word ≡ i))) ToldBy
       (λ t f. elim (dec_lt 16 t.number) [
-        | yes g ↦ (let e = f.1.0 g in rw e (andi_told t.word h (omega (arith, p, f.1.1))))
+        | yes g ↦ andi_told t.number t.word (either t.number (f.1.0 g)) h (omega (arith, p, f.1.1))
         | no g ↦ word_told t.number t.word f.0 (omega (arith, g)) (omega (arith, p, f.1.1))
       ])
       (trials_at i) (omega arith)

@@ -100,9 +100,10 @@ module _ (l : Layout) (len : ℕ) (img : List ℕ) where
         r11 = λ i p. (at i p).1.1.1.0;
         r12 = λ i p. (at i p).1.1.1.1.0;
         r22 = λ i p. (at i p).1.1.1.1.1.0;
-        r13 = λ i p. (at i p).1.1.1.1.1.1.0;
-        r14 = λ i p. (at i p).1.1.1.1.1.1.1.0;
-        r15 = λ i p. (at i p).1.1.1.1.1.1.1.1.0;
+        r25 = λ i p. (at i p).1.1.1.1.1.1.0;
+        r13 = λ i p. (at i p).1.1.1.1.1.1.1.0;
+        r14 = λ i p. (at i p).1.1.1.1.1.1.1.1.0;
+        r15 = λ i p. (at i p).1.1.1.1.1.1.1.1.1.0;
         r16 = rw e at w.1.0;
       }
 
@@ -113,7 +114,7 @@ module _ (l : Layout) (len : ℕ) (img : List ℕ) where
       (of_words Kept trials_at trials_after (words_in l) 0 (λ i _ q. word i (omega arith), (rw e w.r16, tt)))
     where
       word : (i : ℕ) → i < words_in l → All Kept (trials_at i)
-      word i p = (w.r8 i p, (w.r9 i p, (w.r10 i p, (w.r11 i p, (w.r12 i p, (w.r22 i p, (w.r13 i p, (w.r14 i p, (w.r15 i p, tt)))))))))
+      word i p = (w.r8 i p, (w.r9 i p, (w.r10 i p, (w.r11 i p, (w.r12 i p, (w.r22 i p, (w.r25 i p, (w.r13 i p, (w.r14 i p, (w.r15 i p, tt))))))))))
 
   pub accepted_lawful : check_of l len img ≡ accepted → Lawful l len img
   unfolding check_of

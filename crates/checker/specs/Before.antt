@@ -1,9 +1,9 @@
--- Document 01's rules as they stood before document 02, Ticket 5, parted its rule of data guards into 12 and 22. `same_modules` of proofs/Guarded says
--- that they are kept by the same modules.
+-- Document 01's rules as they stood before document 02, Ticket 5, parted its rule of data guards into 12 and 22, and Ticket 7 asked for data guards' masks without holes.
+-- `same_modules` of proofs/Guarded says that by Ticket 5 nothing else changed, and by Ticket 7 only that.
 use Rattle.std.specs.Prelude.{ℕ, ◌-◌, ◌<◌, ◌≤◌, ◌≡◌, List, length}
 use Rattle.word.specs.Bytes.{longest}
 use Rattle.layout.specs.declared.Layout.{Layout}
-use Rattle.checker.specs.Lawful.{Power, Placed, Apart, Stands, Accesses, Guarded, FitsData, width_of, words_in, Rule8, Rule9, Rule10, Rule11, Rule13, Rule14, Rule15, Rule16}
+use Rattle.checker.specs.Lawful.{Power, Placed, Apart, Stands, Accesses, Guarded, FitsData, width_of, words_in, Rule8, Rule9, Rule10, Rule11, Rule25, Rule13, Rule14, Rule15, Rule16}
 use Rattle.isa.specs.declared.kind.Instruction.{Instruction}
 use Rattle.rules.specs.Offset.{offset_of}
 
@@ -12,6 +12,10 @@ abbrev pub FittingGuard : Layout → List ℕ → ℕ → Type 0
 FittingGuard l img i =
     (x : Instruction) → Stands img i x → Accesses x
     → (m : ℕ) × (Guarded img i x.rs 26 m × FitsData l.data_size m (offset_of x.value) (width_of x))
+
+-- what Ticket 7 asks besides: the mask of no data guard has holes
+abbrev pub Unholed : Layout → List ℕ → Type 0
+Unholed l img = (i : ℕ) → i < words_in l → Rule25 img i
 
 pub record LawfulBefore (l : Layout) (len : ℕ) (img : List ℕ) : Type 0 where
   pub r1 : len ≤ longest

@@ -1,10 +1,10 @@
--- The checker: rules tried in document 01's order, 22 of document 02 among them, until one is broken.
-use Rattle.std.specs.Prelude.{ℕ, zero, suc, ◌-◌, ◌/◌, Bool, true, false, cond, not, List, [], ◌∷◌, ◌++◌, eqb, leb, length, take, drop}
+-- The checker: rules tried in document 01's order, 22 and 25 of document 02 among them, until one is broken.
+use Rattle.std.specs.Prelude.{ℕ, zero, suc, ◌-◌, ◌/◌, Bool, true, false, cond, not, ◌||◌, List, [], ◌∷◌, ◌++◌, eqb, leb, length, take, drop}
 use Rattle.view.specs.View.{passes, is_branch, is_jump}
 use Rattle.layout.specs.declared.Layout.{Layout}
 use Rattle.layout.specs.Layout.{broken1, broken2, broken3, broken4, broken5, broken6}
 use Rattle.checker.specs.declared.verdict.Verdict.{Verdict}
-use Rattle.rules.specs.Rules.{view_at, view_before, broken10, broken11, broken12, broken22, broken13, broken14, broken15}
+use Rattle.rules.specs.Rules.{view_at, view_before, broken10, broken11, broken12, broken22, broken25, broken13, broken14, broken15}
 
 -- ---- trials
 
@@ -27,9 +27,13 @@ no_place = 4294967295
 abbrev pub accepted : Verdict
 accepted = verdict 0 no_place
 
--- the word that rule n names where it is broken at word i: the word itself, but for 22 the ANDI of its guard, two words before (document 02, Ticket 5)
+-- rule n is of a data guard's numbers, and names its ANDI (document 02, Tickets 5 and 7)
+abbrev pub of_mask : ℕ → Bool
+of_mask n = eqb n 22 || eqb n 25
+
+-- the word that rule n names where it is broken at word i: the word itself, but for a rule of the mask the ANDI of its guard, two words before
 abbrev pub named : ℕ → ℕ → ℕ
-named n i = cond (eqb n 22) (i - 2) i
+named n i = cond (of_mask n) (i - 2) i
 
 -- what is said where trial t is the first that is broken
 abbrev pub said : Trial → Verdict
@@ -42,10 +46,10 @@ abbrev pub file_trials : List Trial
 file_trials =
     trial 1 no_place ∷ trial 2 no_place ∷ trial 3 no_place ∷ trial 4 no_place ∷ trial 5 no_place ∷ trial 6 no_place ∷ trial 7 no_place ∷ []
 
--- word i, 8 to 15 by number, and 22 directly after 12 (document 02, Ticket 5)
+-- word i, 8 to 15 by number, and directly after 12 first 22 and then 25 (document 02, Tickets 5 and 7)
 abbrev pub trials_at : ℕ → List Trial
 trials_at i =
-    trial 8 i ∷ trial 9 i ∷ trial 10 i ∷ trial 11 i ∷ trial 12 i ∷ trial 22 i ∷ trial 13 i ∷ trial 14 i ∷ trial 15 i ∷ []
+    trial 8 i ∷ trial 9 i ∷ trial 10 i ∷ trial 11 i ∷ trial 12 i ∷ trial 22 i ∷ trial 25 i ∷ trial 13 i ∷ trial 14 i ∷ trial 15 i ∷ []
 
 -- after n words: 16, at the last word but one
 abbrev pub trials_after : ℕ → List Trial
@@ -65,7 +69,7 @@ trials_of l = trials_by trials_at trials_after l
 
 -- ---- the rules by number
 
--- 8 to 16 and 22, at word i
+-- 8 to 16, 22 and 25, at word i
 unfoldable pub is_word_broken : Layout → List ℕ → ℕ → ℕ → Bool
 is_word_broken l img n i =
     cond (eqb n 8) (not (passes (λ v. true) (view_at img i)))
@@ -74,10 +78,11 @@ is_word_broken l img n i =
     (cond (eqb n 11) (passes broken11 (view_at img i))
     (cond (eqb n 12) (passes (broken12 img i) (view_at img i))
     (cond (eqb n 22) (passes (broken22 l.data_size img i) (view_at img i))
+    (cond (eqb n 25) (passes (broken25 img i) (view_at img i))
     (cond (eqb n 13) (passes (broken13 l.code_size img i) (view_at img i))
     (cond (eqb n 14) (passes (broken14 (passes is_branch (view_before img i))) (view_at img i))
     (cond (eqb n 15) (passes (broken15 l img i) (view_at img i))
-    (cond (eqb n 16) (not (passes is_jump (view_at img i))) false)))))))))
+    (cond (eqb n 16) (not (passes is_jump (view_at img i))) false))))))))))
 
 -- 1 to 7; len is the memory's length
 unfoldable pub is_file_broken : Layout → ℕ → List ℕ → ℕ → Bool

@@ -1,4 +1,4 @@
--- Document 01's worked cases of the checker, the examples of the Refusal table, 1 to 16, and C9 to C12; and cases of 12 and 22.
+-- Document 01's worked cases of the checker, the examples of the Refusal table, 1 to 16, and C9 to C12; and cases of 12, 22 and 25.
 use Rattle.std.specs.Prelude.{ℕ, ◌/◌, ◌%◌, List, [], ◌∷◌, ◌++◌}
 use Rattle.layout.specs.declared.Layout.{Layout}
 use Rattle.layout.specs.Layout.{layout_of}
@@ -79,12 +79,16 @@ examples = refusals ++ cases
 abbrev pub three : ℕ → ℕ → ℕ → Verdict → Example
 three a b c v = holding (a ∷ b ∷ c ∷ 0 ∷ 0 ∷ 0 ∷ 0x08004000 ∷ 0 ∷ []) v
 
--- M's OR 8,8,26 and its SW 9,0(8), after another ANDI; the ANDI 8,8,56 and the OR, before another access
+-- M's OR 8,8,26 and its SW 9,0(8), after another ANDI; the ANDI 8,8,28 and the OR, before another access
 abbrev pub mask : ℕ → Verdict → Example
 mask a v = three a 0x011A4025 0xAD090000 v
 
 abbrev pub access : ℕ → Verdict → Example
-access c v = three 0x31080038 0x011A4025 c v
+access c v = three 0x3108001C 0x011A4025 c v
+
+-- the same with another ANDI too
+abbrev pub guarding : ℕ → ℕ → Verdict → Example
+guarding a c v = three a 0x011A4025 c v
 
 -- the same with 65,536 bytes of data, and any ANDI and access
 abbrev pub widest : ℕ → ℕ → Verdict → Example
@@ -138,15 +142,15 @@ misfits =
     -- the mask is no multiple of 4: ANDI 8,8,58; with SB 9,0(8) the mask 63 fits
     mask 0x3108003A (verdict 22 0)
     ∷ three 0x3108003F 0x011A4025 0xA1090000 accepted
-    -- the offset is no multiple: SW 9,2(8), and SH in its place; SH 9,1(8), and SB in its place
+    -- the offset is no multiple: SW 9,2(8), and SH in its place with ANDI 8,8,30; SH 9,1(8), and SB in its place with ANDI 8,8,31
     ∷ access 0xAD090002 (verdict 22 0)
-    ∷ access 0xA5090002 accepted
-    ∷ access 0xA5090001 (verdict 22 0)
-    ∷ access 0xA1090001 accepted
+    ∷ guarding 0x3108001E 0xA5090002 accepted
+    ∷ guarding 0x3108001E 0xA5090001 (verdict 22 0)
+    ∷ guarding 0x3108001F 0xA1090001 accepted
     -- the offset is negative: SW 9,-4(8), with 64 bytes of data, and with 65,536 and ANDI 8,8,0, where 65,532 would fit
     ∷ access 0xAD09FFFC (verdict 22 0)
     ∷ widest 0x31080000 0xAD09FFFC (verdict 22 0)
-    -- the sum is one access too large: SW 9,4(8) with ANDI 8,8,60, and with 56; and past 16 bits, with ANDI 8,8,65532
+    -- the sum is one access too large: SW 9,4(8) with ANDI 8,8,60, and with 28; and past 16 bits, with ANDI 8,8,65532
     ∷ three 0x3108003C 0x011A4025 0xAD090004 (verdict 22 0)
     ∷ access 0xAD090004 accepted
     ∷ widest 0x3108FFFC 0xAD090004 (verdict 22 0)
@@ -162,8 +166,58 @@ misfits =
     ∷ holding (0 ∷ 0 ∷ 0 ∷ 0xAD090000 ∷ 0x31080040 ∷ 0x011A4025 ∷ 0xAD090000 ∷ 0 ∷ []) (verdict 12 3)
     ∷ []
 
+-- 25, and what is beside it (document 02, Ticket 7)
+abbrev pub holes : List Example
+holes =
+    -- the author's mask: ANDI 8,8,0x34 with SW; and 0x3C
+    mask 0x31080034 (verdict 25 0)
+    ∷ mask 0x3108003C accepted
+    -- one row alone, ANDI 8,8,0; 4, which makes 8; 8, which makes 12; 12, which makes 16
+    ∷ mask 0x31080000 accepted
+    ∷ mask 0x31080004 accepted
+    ∷ mask 0x31080008 (verdict 25 0)
+    ∷ mask 0x3108000C accepted
+    -- a mask that goes with one width and not with another: 28 with SW, SH and SB; 30 with SH and SB; 31 with SB
+    ∷ access 0xAD090000 accepted
+    ∷ access 0xA5090000 (verdict 25 0)
+    ∷ access 0xA1090000 (verdict 25 0)
+    ∷ guarding 0x3108001E 0xA5090000 accepted
+    ∷ guarding 0x3108001E 0xA1090000 (verdict 25 0)
+    ∷ guarding 0x3108001F 0xA1090000 accepted
+    -- LL and SC, LB, LBU, LH, LHU and LW
+    ∷ guarding 0x31080034 0xC1090000 (verdict 25 0)
+    ∷ guarding 0x31080034 0xE1090000 (verdict 25 0)
+    ∷ guarding 0x31080034 0x81090000 (verdict 25 0)
+    ∷ guarding 0x31080034 0x91090000 (verdict 25 0)
+    ∷ guarding 0x31080034 0x85090000 (verdict 25 0)
+    ∷ guarding 0x31080034 0x95090000 (verdict 25 0)
+    ∷ guarding 0x31080034 0x8D090000 (verdict 25 0)
+    -- the sum past 16 bits: 0xFFFF + 1, 0xFFFE + 2 and 0xFFFC + 4; and just below, 0xFFFE + 1 and 0xFFFA + 2
+    ∷ widest 0x3108FFFF 0xA1090000 accepted
+    ∷ widest 0x3108FFFE 0xA5090000 accepted
+    ∷ widest 0x3108FFFC 0xAD090000 accepted
+    ∷ widest 0x3108FFFE 0xA1090000 (verdict 25 0)
+    ∷ widest 0x3108FFFA 0xA5090000 (verdict 25 0)
+    -- the smallest sum: ANDI 8,8,0 with SB
+    ∷ guarding 0x31080000 0xA1090000 accepted
+    -- 22 before 25: 0x34 with the offset 12, one access too large, and with -4; and 12 before both, with another R and a mask that is no multiple
+    ∷ guarding 0x31080034 0xAD09000C (verdict 22 0)
+    ∷ guarding 0x31080034 0xAD09FFFC (verdict 22 0)
+    ∷ mask 0x3109003A (verdict 12 2)
+    -- the access in the bundle's last word, and the guard in the second bundle
+    ∷ holding (0 ∷ 0x31080034 ∷ 0x011A4025 ∷ 0xAD090000 ∷ 0 ∷ 0 ∷ 0x08004000 ∷ 0 ∷ []) (verdict 25 1)
+    ∷ holding (0 ∷ 0 ∷ 0 ∷ 0 ∷ 0x31080034 ∷ 0x011A4025 ∷ 0xAD090000 ∷ 0 ∷ []) (verdict 25 4)
+    -- words are tried in their order, 25 of word 2 before 12 of word 3; and 10 of word 2 before 25
+    ∷ holding (0x31080034 ∷ 0x011A4025 ∷ 0xAD090000 ∷ 0xAD090000 ∷ 0 ∷ 0 ∷ 0x08004000 ∷ 0 ∷ []) (verdict 25 0)
+    ∷ guarding 0x31080034 0x8D1A0000 (verdict 10 2)
+    -- an ANDI that guards nothing may have any mask; and before JR 8 and JALR 31,8 it may be 16, which goes with no access
+    ∷ three 0x31080034 0 0 accepted
+    ∷ three 0x31080010 0x011B4025 0x01000008 accepted
+    ∷ three 0x31080010 0x011B4025 0x0100F809 accepted
+    ∷ []
+
 abbrev pub guards : List Example
-guards = unguarded ++ misfits
+guards = unguarded ++ misfits ++ holes
 
 -- what the checker says of an example
 abbrev pub said_of : Example → Verdict

@@ -1,4 +1,4 @@
--- The rules as a reader of document 01, with Ticket 5 of document 02, states them: propositions about the instructions of an image, with no order and no checker.
+-- The rules as a reader of document 01, with Tickets 5 and 7 of document 02, states them: propositions about the instructions of an image, with no order and no checker.
 use Rattle.std.specs.Prelude.{ℕ, ◌+◌, ◌-◌, ◌*◌, ◌/◌, ◌%◌, ◌^◌, ◌≤◌, ◌<◌, ◌≡◌, true, ◌⊎◌, List, ℤ, pos, length, Some}
 use Rattle.word.specs.Bytes.{load_of, longest}
 use Rattle.isa.specs.declared.kind.Alu.TheVariants.{Or}
@@ -137,6 +137,12 @@ Rule22 l img i =
     (x : Instruction) → Stands img i x → Accesses x
     → (m : ℕ) → Guarded img i x.rs 26 m → FitsData l.data_size m (offset_of x.value) (width_of x)
 
+-- and the mask has no holes: with the width of the access it makes a power of two (document 02, Ticket 7)
+abbrev pub Rule25 : List ℕ → ℕ → Type 0
+Rule25 img i =
+    (x : Instruction) → Stands img i x → Accesses x
+    → (m : ℕ) → Guarded img i x.rs 26 m → (e : ℕ) × (m + width_of x ≡ 2 ^ e)
+
 abbrev pub Rule13 : Layout → List ℕ → ℕ → Type 0
 Rule13 l img i =
     (x : Instruction) → Stands img i x → ByRegister x
@@ -159,7 +165,7 @@ Rule16 img i = (x : Instruction) × (Stands img i x × ((flow_of x ≡ Region) �
 abbrev pub words_in : Layout → ℕ
 words_in l = l.code_size / 4
 
--- a module keeps document 01's rules, of which document 02 parts 12 into 12 and 22
+-- a module keeps document 01's rules, of which document 02 parts 12 into 12 and 22, and 25 of document 02
 pub record Lawful (l : Layout) (len : ℕ) (img : List ℕ) : Type 0 where
   pub r1 : len ≤ longest
   pub r2 : Power 16 65536 l.code_size
@@ -174,6 +180,7 @@ pub record Lawful (l : Layout) (len : ℕ) (img : List ℕ) : Type 0 where
   pub r11 : (i : ℕ) → i < words_in l → Rule11 img i
   pub r12 : (i : ℕ) → i < words_in l → Rule12 img i
   pub r22 : (i : ℕ) → i < words_in l → Rule22 l img i
+  pub r25 : (i : ℕ) → i < words_in l → Rule25 img i
   pub r13 : (i : ℕ) → i < words_in l → Rule13 l img i
   pub r14 : (i : ℕ) → i < words_in l → Rule14 img i
   pub r15 : (i : ℕ) → i < words_in l → Rule15 l img i

@@ -1,4 +1,4 @@
--- What the code asks of layout and image, and of one word: the first of 1 to 7, or of 8 to 15 and 22, that is broken, 0 where none is; and whether a
+-- What the code asks of layout and image, and of one word: the first of 1 to 7, or of 8 to 15, 22 and 25, that is broken, 0 where none is; and whether a
 -- word is a branch or jump. The verdict (`check_of`) does not rest on this; `file_first` and `word_first` of proofs/Scan tie the two together.
 use Rattle.std.specs.Prelude.{ℕ, zero, suc, ◌≡◌, ◌-◌, ◌/◌, Bool, cond, not, List, IfOk, Option, Some, None, Result, eqb, length}
 use Rattle.refusal.specs.declared.Refusal.{Refusal}

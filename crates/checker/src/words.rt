@@ -1,4 +1,4 @@
-// The words of an image in their order, each tried with 8 to 15, and 22 after 12.
+// The words of an image in their order, each tried with 8 to 15, and 22 and 25 after 12.
 ghost use Rattle.std.specs.Prelude.{◌≡◌, ◌<◌, ◌/◌, ℕ, IfOk, List, Ok, Some, length};
 ghost use Rattle.layout.specs.declared.Layout.{Layout};
 ghost use Rattle.refusal.specs.Refusal.{number_of, refused_number};
@@ -85,11 +85,11 @@ fn try_word<P: Profile>(site: Site, after: bool) -> Result<bool, Refusal>
     Ok(branch)
 }
 
-// The word that a rule names where it is broken at word i: for 22, the ANDI of its guard.
+// The word that a rule names where it is broken at word i: for 22 and 25, the ANDI of its guard.
 fn named(rule: Refusal, i: u32) -> u32
     ensures { result ≡ named (number_of rule) i }
 {
-    if rule == Refusal::DataMask {
+    if rule == Refusal::DataMask || rule == Refusal::MaskHole {
         i.saturating_sub(2)
     } else {
         i

@@ -4,6 +4,7 @@ use mathlib.Core.Path.{◌≡◌, refl, sym, ap, ◌∙◌}
 use mathlib.Core.Bool.{Bool, true, false, true≢false}
 use mathlib.Core.List.{List, [], ◌∷◌, map}
 use lib.ListN.{get_or, drop}
+use lib.Count.{ones}
 use Rattle.word.specs.Number.{signed_of, extend_of}
 use Rattle.word.proofs.Choice.{by_test}
 use Rattle.class.specs.Class.{register_written}
@@ -23,7 +24,7 @@ use Rattle.layout.specs.Layout.{is_code_size, is_data_size, is_placed, is_apart}
 use Rattle.view.specs.View.{seen, word_view}
 use Rattle.view.specs.Guard.{is_mask_of, mask_in, is_merge_of}
 use Rattle.rules.specs.Offset.{offset_of}
-use Rattle.rules.specs.Rules.{view_at, view_before, broken10, broken11, is_guarded, fits_data, fits_code, broken12, broken22, broken13, broken14, target_of, is_entry, lands, broken15}
+use Rattle.rules.specs.Rules.{view_at, view_before, broken10, broken11, is_guarded, fits_data, fits_code, is_contiguous, broken12, broken22, broken25, broken13, broken14, target_of, is_entry, lands, broken15}
 use Rattle.checker.specs.Check.{is_word_broken, is_file_broken, accepted, check_of, code_of}
 use Rattle.rules.specs.Not.{Not}
 use Rattle.checker.specs.Refusal.{All}
@@ -37,11 +38,11 @@ use Rattle.examples.proofs.Starts.{facts_of, facts_due, starts}
 -- ---- the tables
 
 pub escapes_found : map found escapes ≡ map wanted escapes
-unfolding signed_of extend_of register_written fits decode_of read_fields read_of address_of reaches store_if slot_of region_of jump_if is_user breakpoint_of privileged decision_of is_lawful refusal_of put_of effect_of effect_at access_at try_of step_of is_served is_code_size is_data_size is_placed is_apart seen word_view is_mask_of mask_in is_merge_of offset_of view_at view_before broken10 broken11 is_guarded fits_data fits_code broken12 broken22 broken13 broken14 target_of is_entry lands broken15 is_word_broken is_file_broken check_of is_confined
+unfolding ones signed_of extend_of register_written fits decode_of read_fields read_of address_of reaches store_if slot_of region_of jump_if is_user breakpoint_of privileged decision_of is_lawful refusal_of put_of effect_of effect_at access_at try_of step_of is_served is_code_size is_data_size is_placed is_apart seen word_view is_mask_of mask_in is_merge_of offset_of view_at view_before broken10 broken11 is_guarded fits_data fits_code is_contiguous broken12 broken22 broken25 broken13 broken14 target_of is_entry lands broken15 is_word_broken is_file_broken check_of is_confined
 escapes_found = refl
 
 pub hosts_found : map found hosts ≡ map wanted hosts
-unfolding signed_of extend_of register_written fits decode_of read_fields read_of address_of slot_of region_of jump_if is_user system_call_of decision_of is_lawful refusal_of put_of effect_of effect_at access_at try_of step_of repeat_of run_of is_served resume_of is_code_size is_data_size is_placed is_apart seen word_view is_mask_of mask_in is_merge_of offset_of view_at view_before broken10 broken11 is_guarded fits_data fits_code broken12 broken22 broken13 broken14 target_of is_entry lands broken15 is_word_broken is_file_broken check_of is_confined
+unfolding ones signed_of extend_of register_written fits decode_of read_fields read_of address_of slot_of region_of jump_if is_user system_call_of decision_of is_lawful refusal_of put_of effect_of effect_at access_at try_of step_of repeat_of run_of is_served resume_of is_code_size is_data_size is_placed is_apart seen word_view is_mask_of mask_in is_merge_of offset_of view_at view_before broken10 broken11 is_guarded fits_data fits_code is_contiguous broken12 broken22 broken25 broken13 broken14 target_of is_entry lands broken15 is_word_broken is_file_broken check_of is_confined
 hosts_found = refl
 
 -- ---- the test of confinement

@@ -7,6 +7,7 @@ use native.Mathlib.Omega.{arith}
 use lib.Dec.{eqb, leb}
 use lib.ListN.{length, take, drop, set, length-set}
 use lib.Seq.{get_or-set_other, set-set}
+use lib.Count.{ones}
 use Rattle.word.specs.Number.{signed_of, extend_of}
 use Rattle.word.specs.Bytes.{load_of, store_of}
 use Rattle.word.proofs.Memory.{load_store, set_every}
@@ -36,7 +37,7 @@ use Rattle.layout.specs.Layout.{is_code_size, is_data_size, is_placed, is_apart}
 use Rattle.view.specs.View.{seen, word_view}
 use Rattle.view.specs.Guard.{is_mask_of, mask_in, is_merge_of}
 use Rattle.rules.specs.Offset.{offset_of}
-use Rattle.rules.specs.Rules.{view_at, view_before, broken10, broken11, is_guarded, fits_data, fits_code, broken12, broken22, broken13, broken14, target_of, is_entry, lands, broken15}
+use Rattle.rules.specs.Rules.{view_at, view_before, broken10, broken11, is_guarded, fits_data, fits_code, is_contiguous, broken12, broken22, broken25, broken13, broken14, target_of, is_entry, lands, broken15}
 use Rattle.checker.specs.Check.{is_word_broken, is_file_broken, accepted, check_of, code_of}
 use Rattle.checker.specs.Examples.{length_m, layout_m, module_m}
 use Rattle.checker.proofs.Examples.{m_accepted}
@@ -324,7 +325,7 @@ sample_exported_list =
 -- ---- the module that overflows
 
 pub overflow_accepted : check_of usual memory_length (image_of overflow) ≡ accepted
-unfolding signed_of register_written fits decode_of read_fields read_of slot_of region_of is_code_size is_data_size is_placed is_apart seen word_view is_mask_of mask_in is_merge_of offset_of view_at view_before broken10 broken11 is_guarded fits_data fits_code broken12 broken22 broken13 broken14 target_of is_entry lands broken15 is_word_broken is_file_broken check_of
+unfolding ones signed_of register_written fits decode_of read_fields read_of slot_of region_of is_code_size is_data_size is_placed is_apart seen word_view is_mask_of mask_in is_merge_of offset_of view_at view_before broken10 broken11 is_guarded fits_data fits_code is_contiguous broken12 broken22 broken25 broken13 broken14 target_of is_entry lands broken15 is_word_broken is_file_broken check_of
 overflow_accepted = refl
 
 pub overflow_starts : Start methods usual memory_length (image_of overflow) (lent_of overflow)

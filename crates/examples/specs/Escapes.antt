@@ -208,14 +208,13 @@ escapes =
     ∷ breaks 12 2 48 (looped nop nop sw nop) (AccessesAt 48 4)
     -- R is register 0: ANDI 0,8,12; OR 0,0,26; SW 9,0(0)
     ∷ breaks 12 2 0 (looped 0x3100000C 0x001A0025 0xAC090000 nop) (AccessesAt 0 4)
-    -- mask, or mask and offset, too large: ANDI 8,8,16; SW 9,4(8)
-    ∷ breaks 22 2 16 (looped (andi 16) or26 sw nop) (AccessesAt 48 4)
+    -- mask, or mask and offset, too large: ANDI 8,8,28; SW 9,4(8)
+    ∷ breaks 22 2 16 (looped (andi 28) or26 sw nop) (AccessesAt 48 4)
     ∷ breaks 22 2 12 (looped (andi 12) or26 0xAD090004 nop) (AccessesAt 48 4)
     -- offset negative: SW 9,-4(8)
     ∷ breaks 22 2 0 (looped (andi 12) or26 0xAD09FFFC nop) (AccessesAt 28 4)
-    -- mask, or offset, no multiple of the width: ANDI 8,8,9; SW 9,1(8)
-    ∷ breaks 22 2 1 (looped (andi 9) or26 sw nop) (Exits 43)
-    ∷ breaks 22 2 0 (looped (andi 8) or26 0xAD090001 nop) (Exits 43)
+    -- offset no multiple of the width: SW 9,1(8). A mask that is none has holes too, and breaks 25
+    ∷ breaks 22 2 0 (looped (andi 4) or26 0xAD090001 nop) (Exits 43)
     -- guard in the bundle before, and JR to the access
     ∷ breaks_in wide 12 8 32 (andi 32 ∷ or27 ∷ jr ∷ nop ∷ nop ∷ nop ∷ andi 12 ∷ or26 ∷ looped sw nop nop nop) (AccessesAt 96 4)
     -- JR without guard

@@ -2,6 +2,7 @@
 use Prim.Native.Nat.{ℕ, zero, suc, ◌+◌, ◌-◌, ◌*◌, ◌/◌, ◌%◌, ◌^◌, ◌≤◌, ◌<◌}
 use mathlib.Core.Path.{◌≡◌, refl, sym, subst, ap, ◌∙◌}
 use mathlib.Core.Bool.{Bool, true, false, not, ◌&&◌, ◌||◌}
+use mathlib.Core.Logic.{◌↔◌}
 use native.Mathlib.Nat.{zero-mod, pow-suc}
 use native.Mathlib.Numerals.{unary_clauses}
 use native.Mathlib.Omega.{arith}
@@ -67,6 +68,10 @@ ones_power (suc e) =
     let d = pow-suc 2 e in
     let z : 2 ^ suc e / 2 ≡ 2 ^ e = omega (arith, d) in
     omega (arith, d, ones_step (2 ^ suc e), ones_power e, ap count_ones z)
+
+-- a number has one 1 exactly where it is a power of two
+pub one_bit : (n : ℕ) → ((count_ones n ≡ 1) ↔ ((e : ℕ) × (n ≡ 2 ^ e)))
+one_bit n = (λ h. halved n n (le_refl n) h, λ p. rw p.1 (ones_power p.0))
 
 pub power_holds : (n lo k : ℕ) → Exponent lo k n → is_power lo k n ≡ true
 power_holds n lo zero x = absurd (omega (arith, x.least, x.most))

@@ -27,6 +27,7 @@ pub enum Refusal {
     DataMask = 22,
     NoSpace = 23,
     Record = 24,
+    MaskHole = 25,
 }
 
 // What a rule that is broken, or a test that holds, ends in: a refusal, or an exit of the machine.

@@ -1,5 +1,5 @@
--- The rules of words as tests, 10 to 15 and 22 (document 01, Module and its guards; Refusal table; document 02, Ticket 5); 8 is that there is no view, 9 is `barred` of the view. img is the image, i a word's index.
-use Rattle.std.specs.Prelude.{ℕ, ◌+◌, ◌-◌, ◌*◌, ◌/◌, ◌%◌, ◌≤◌, Bool, false, cond, not, ◌&&◌, ◌||◌, ◌≡◌, List, Option, Some, None, is_some, eqb, leb, ltb, ℤ, pos, negsuc, length}
+-- The rules of words as tests, 10 to 15, 22 and 25 (document 01, Module and its guards; Refusal table; document 02, Tickets 5 and 7); 8 is that there is no view, 9 is `barred` of the view. img is the image, i a word's index.
+use Rattle.std.specs.Prelude.{ℕ, ◌+◌, ◌-◌, ◌*◌, ◌/◌, ◌%◌, ◌≤◌, Bool, false, cond, not, ◌&&◌, ◌||◌, ◌≡◌, List, Option, Some, None, is_some, eqb, leb, ltb, ℤ, pos, negsuc, length, count_ones}
 use Rattle.word.specs.Bytes.{load_of, longest}
 use Rattle.isa.specs.Width.{bytes_of}
 use Rattle.branch.specs.Branch.{relative_of, region_of}
@@ -69,6 +69,10 @@ unfoldable pub fits_data : ℕ → ℕ → ℤ → ℕ → Bool
 fits_data size m (pos o) w = eqb (m % w) 0 && (eqb (o % w) 0 && leb (m + o + w) size)
 fits_data size m (negsuc o) w = false
 
+-- mask m and width w make a power of two: of that sum one bit is 1
+unfoldable pub is_contiguous : ℕ → ℕ → Bool
+is_contiguous m w = eqb (count_ones (m + w)) 1
+
 -- m is a multiple of 16 and at most code size - 16
 unfoldable pub fits_code : ℕ → ℕ → Bool
 fits_code size m = eqb (m % 16) 0 && leb (m + 16) size
@@ -82,9 +86,13 @@ unfoldable pub broken22 : ℕ → List ℕ → ℕ → View → Bool
 broken22 size img i v =
     is_some v.width && (has_guard img i 26 v.rs && not (fits_data size (mask_at img i) (offset_of v.value) (bytes_of v.width)))
 
--- the number of the two that an access breaks, 0 where it breaks none
+-- access whose guard words are right, but the mask has holes
+unfoldable pub broken25 : List ℕ → ℕ → View → Bool
+broken25 img i v = is_some v.width && (has_guard img i 26 v.rs && not (is_contiguous (mask_at img i) (bytes_of v.width)))
+
+-- the number of the first of the three that an access breaks, 0 where it breaks none
 unfoldable pub data_refusal : ℕ → List ℕ → ℕ → View → ℕ
-data_refusal size img i v = cond (broken12 img i v) 12 (cond (broken22 size img i v) 22 0)
+data_refusal size img i v = cond (broken12 img i v) 12 (cond (broken22 size img i v) 22 (cond (broken25 img i v) 25 0))
 
 -- JR or JALR without fitting guard
 unfoldable pub broken13 : ℕ → List ℕ → ℕ → View → Bool

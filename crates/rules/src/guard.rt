@@ -1,5 +1,6 @@
 // Guards: the two words before an access, JR or JALR.
-ghost use Rattle.std.specs.Prelude.{◌≡◌};
+ghost use Rattle.std.specs.Option.{ForSome};
+ghost use Rattle.std.specs.Prelude.{◌≡◌, ◌<◌};
 ghost use Rattle.isa.specs.Width.{bytes_in};
 ghost use Rattle.refusal.specs.Refusal.{refused_number};
 ghost use Rattle.rules.specs.Offset.{offset_of};
@@ -24,7 +25,8 @@ fn is_guarded(a: u32, b: u32, base: u32, r: u32) -> bool
 #[tactic(auto, using(crate::proofs::Guards::masked), unfolding(crate::specs::Rules::guard_mask))]
 #[inline(always)]
 fn mask_before(w: Word, base: u32, r: u32) -> Option<u32>
-    ensures { result ≡ Spec.guard_mask w.entry.image.now w.entry.index base r }
+    ensures mask { result ≡ Spec.guard_mask w.entry.image.now w.entry.index base r }
+    ensures bound { ForSome result (λ m. m < 65536) }
 {
     if w.index % 4 < 2 {
         return None;
@@ -55,8 +57,17 @@ fn fits_code(size: u32, mask: u32) -> bool
     mask % 16 == 0 && u64::from(mask) + 16 <= u64::from(size)
 }
 
-// 12 and 22 in one, since both look at the guard.
-#[tactic(auto, unfolding(crate::specs::Rules::data_refusal, crate::specs::Rules::broken12, crate::specs::Rules::broken22, crate::specs::Rules::guard_mask))]
+// The mask and the width of the access make a power of two.
+#[tactic(auto, unfolding(crate::specs::Rules::is_contiguous))]
+fn is_contiguous(mask: u32, width: Width) -> bool
+    requires { mask < 65536 }
+    ensures { result ≡ Spec.is_contiguous mask (bytes_in width) }
+{
+    (mask + u32::from(width)).count_ones() == 1
+}
+
+// 12, 22 and 25 in one, since all look at the guard.
+#[tactic(auto, unfolding(crate::specs::Rules::data_refusal, crate::specs::Rules::broken12, crate::specs::Rules::broken22, crate::specs::Rules::broken25, crate::specs::Rules::guard_mask))]
 pub fn check_data(data_size: u32, w: Word, v: View) -> Result<(), Refusal>
     ensures { refused_number result ≡ Spec.data_refusal data_size w.entry.image.now w.entry.index v }
 {
@@ -66,7 +77,8 @@ pub fn check_data(data_size: u32, w: Word, v: View) -> Result<(), Refusal>
     let Some(mask) = mask_before(w, register::DATA_BASE, v.rs) else {
         return Err(Refusal::DataGuard);
     };
-    Refusal::DataMask.when(!fits_data(data_size, mask, v.value, width))
+    Refusal::DataMask.when(!fits_data(data_size, mask, v.value, width))?;
+    Refusal::MaskHole.when(!is_contiguous(mask, width))
 }
 
 #[tactic(auto, unfolding(crate::specs::Rules::broken13, crate::specs::Rules::guard_mask))]

@@ -1,6 +1,7 @@
 -- What verdicts of the profile there are: their numbers, and the places that go with them.
 use Prim.Native.Nat.{ℕ, ◌≤◌, ◌<◌}
 use mathlib.Core.Path.{◌≡◌, refl}
+use mathlib.Core.Bool.{false≢true}
 use mathlib.Core.Logic.{inl, inr, ⊎_elim}
 use mathlib.Core.List.{List, [], ◌∷◌}
 use native.Mathlib.Nat.{zero-add}
@@ -29,7 +30,7 @@ module _ (l : Layout) where
       }
     where
       not_21 : Not (t.number ≡ 21)
-      not_21 q = ⊎_elim (λ p. omega (arith, p, q)) (λ p. omega (arith, p, q)) h.number_is
+      not_21 q = ⊎_elim (λ p. omega (arith, p, q)) (λ p. ⊎_elim (λ r. omega (arith, r, q)) (λ r. omega (arith, r, q)) p) h.number_is
 
   told_20 : (i : ℕ) → i < words_in l → StraightTold l (said (trial 20 i))
   told_20 i h =
@@ -37,7 +38,7 @@ module _ (l : Layout) where
         number_is = inr (inl refl);
         no_word = λ p. ⊎_elim (λ q. absurd (omega (arith, q))) (λ q. absurd (omega (arith, q))) p;
         a_word = λ _ _. h;
-        a_mask = λ e. absurd (omega (arith, e));
+        a_mask = λ e. absurd (false≢true e);
       }
 
   told_21 : StraightTold l (said (trial 21 no_place))
@@ -46,7 +47,7 @@ module _ (l : Layout) where
         number_is = inr (inr (inl refl));
         no_word = λ _. refl;
         a_word = λ _ n. absurd (n refl);
-        a_mask = λ e. absurd (omega (arith, e));
+        a_mask = λ e. absurd (false≢true e);
       }
 
   abbrev ToldBy : Trial → Type 0

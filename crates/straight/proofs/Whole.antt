@@ -8,10 +8,10 @@ use Rattle.rules.specs.Not.{Not}
 use Rattle.checker.specs.declared.verdict.Verdict.{Verdict}
 use Rattle.checker.specs.Check.{Trial, trial, said, no_place, accepted, file_trials, trials_at, trials_after, in_turn, trials_of, broken_by, first_of, check_of}
 use Rattle.checker.specs.Lawful.{words_in, Lawful}
-use Rattle.checker.specs.Refusal.{Keeps, All, Unguarded, Misfit}
-use Rattle.checker.proofs.Trials.{join, halves, of_words, to_words}
+use Rattle.checker.specs.Refusal.{Keeps, All, Unguarded, Misfit, Holed}
+use Rattle.checker.proofs.Trials.{join, halves, of_words, to_words, at_after, all_after}
 use Rattle.checker.proofs.Whole.{Numbered, Found, kept_accepted, accepted_kept, refused_at, first_found, zero_accepted, kept_lawful, lawful_kept, lawful_accepted}
-use Rattle.checker.proofs.Guarded.{told_12, told_22}
+use Rattle.checker.proofs.Guarded.{told_12, told_22, told_25}
 use Rattle.straight.specs.Straight.{Straight}
 use Rattle.straight.specs.Check.{straight_at, straight_after, straight_trials, is_straight_broken, straight_of}
 use Rattle.straight.specs.Refusal.{StraightKeeps, StraightRefusal}
@@ -88,7 +88,7 @@ module _ (l : Layout) (len : ℕ) (img : List ℕ) where
       ap (first_of (broken_by (is_straight_broken l img) l len img)) r.order
       ∙ first_found Kept (broken_by (is_straight_broken l img) l len img) (straight_tests l len img) r.before r.after t r.kept r.broken
 
-  -- ---- 12 and 22 tell what the checker's tell
+  -- ---- 12, 22 and 25 tell what the checker's tell
 
   found : {k : ℕ} → 0 < k → (straight_of l len img).number ≡ k → Found Kept (straight_trials l) (straight_of l len img)
   found h e = straight_refused_first (λ a. omega (arith, h, e, ap (λ (v : Verdict). v.number) a))
@@ -98,3 +98,11 @@ module _ (l : Layout) (len : ℕ) (img : List ℕ) where
 
   pub straight_mask_told : (straight_of l len img).number ≡ 22 → Misfit l img ((straight_of l len img).place + 2)
   straight_mask_told e = told_22 Kept (found (omega arith) e) l img (λ i h. h) e
+
+  pub straight_hole_told : (straight_of l len img).number ≡ 25 → Holed l img ((straight_of l len img).place + 2)
+  straight_hole_told e =
+      let a =
+      all_after straight_at straight_after
+      (λ i ts h. at_after i (trial 20 i ∷ ts) (λ s. (λ p. absurd (omega (arith, p)), h (trial 20 i))))
+      (λ i s. (λ p. absurd (omega (arith, p)), (λ p. absurd (omega (arith, p)), tt))) l in
+      told_25 Kept (found (omega arith) e) l img (λ i h. h) (λ i h. h) tt a e

@@ -22,7 +22,7 @@ straight_trials l = trials_by straight_at straight_after l
 
 -- ---- the verdict
 
--- 8 to 16, 20 and 22, at word i, and 21, which hangs on no word
+-- 8 to 16, 20, 22 and 25, at word i, and 21, which hangs on no word
 unfoldable pub is_straight_broken : Layout → List ℕ → ℕ → ℕ → Bool
 is_straight_broken l img n i =
     cond (eqb n 20) (passes (broken20 l i) (view_at img i)) (cond (eqb n 21) (broken21 l img) (is_word_broken l img n i))

@@ -1,6 +1,7 @@
 -- What the tables of specs/Bound say, computed; each module is placed in a start of demand 3, and those that are sharp are accepted by the profile.
 use mathlib.Core.Path.{◌≡◌, refl}
 use mathlib.Core.List.{map, ◌++◌}
+use lib.Count.{ones}
 use Rattle.word.specs.Number.{signed_of, extend_of}
 use Rattle.class.specs.Class.{register_written}
 use Rattle.isa.specs.Reading.{fits, decode_of, read_fields, read_of}
@@ -16,7 +17,7 @@ use Rattle.layout.specs.Layout.{is_code_size, is_data_size, is_placed, is_apart}
 use Rattle.view.specs.View.{seen, word_view}
 use Rattle.view.specs.Guard.{is_mask_of, mask_in, is_merge_of}
 use Rattle.rules.specs.Offset.{offset_of}
-use Rattle.rules.specs.Rules.{view_at, view_before, broken10, broken11, is_guarded, fits_data, fits_code, broken12, broken22, broken13, broken14, target_of, is_entry, lands, broken15}
+use Rattle.rules.specs.Rules.{view_at, view_before, broken10, broken11, is_guarded, fits_data, fits_code, is_contiguous, broken12, broken22, broken25, broken13, broken14, target_of, is_entry, lands, broken15}
 use Rattle.checker.specs.Check.{is_word_broken, is_file_broken, accepted, code_of}
 use Rattle.checker.specs.Refusal.{All}
 use Rattle.profile.specs.Rules.{is_ahead, is_excused, broken20, is_syscall0, is_back, differs}
@@ -32,7 +33,7 @@ use Rattle.examples.proofs.Starts.{facts_of, facts_due, starts}
 use Rattle.examples.proofs.Escapes.{each}
 
 pub straight_timed : map timed (sharp ++ longer) ≡ map expected (sharp ++ longer)
-unfolding signed_of extend_of register_written fits decode_of read_fields read_of slot_of link_of relative_of region_of branch_if jump_if is_user system_call_of decision_of is_lawful refusal_of put_of effect_of effect_at try_of step_of repeat_of run_of is_code_size is_data_size is_placed is_apart seen word_view is_mask_of mask_in is_merge_of offset_of view_at view_before broken10 broken11 is_guarded fits_data fits_code broken12 broken22 broken13 broken14 target_of is_entry lands broken15 is_word_broken is_file_broken is_ahead is_excused broken20 is_syscall0 is_back differs is_straight_broken
+unfolding ones signed_of extend_of register_written fits decode_of read_fields read_of slot_of link_of relative_of region_of branch_if jump_if is_user system_call_of decision_of is_lawful refusal_of put_of effect_of effect_at try_of step_of repeat_of run_of is_code_size is_data_size is_placed is_apart seen word_view is_mask_of mask_in is_merge_of offset_of view_at view_before broken10 broken11 is_guarded fits_data fits_code is_contiguous broken12 broken22 broken25 broken13 broken14 target_of is_entry lands broken15 is_word_broken is_file_broken is_ahead is_excused broken20 is_syscall0 is_back differs is_straight_broken
 straight_timed = refl
 
 pub straight_starts : All (λ t. Start methods t.row.layout memory_length (image_of t.row) (lent_of t.row)) (sharp ++ longer)
@@ -57,7 +58,7 @@ straight_exported_starts =
     straight_starts
 
 pub sharp_accepted : All (λ t. straight_of t.row.layout memory_length (image_of t.row) ≡ accepted) sharp
-unfolding signed_of extend_of register_written fits decode_of read_fields read_of slot_of relative_of region_of is_code_size is_data_size is_placed is_apart seen word_view is_mask_of mask_in is_merge_of offset_of view_at view_before broken10 broken11 is_guarded fits_data fits_code broken12 broken22 broken13 broken14 target_of is_entry lands broken15 is_word_broken is_file_broken is_ahead is_excused broken20 is_syscall0 is_back differs is_straight_broken straight_of
+unfolding ones signed_of extend_of register_written fits decode_of read_fields read_of slot_of relative_of region_of is_code_size is_data_size is_placed is_apart seen word_view is_mask_of mask_in is_merge_of offset_of view_at view_before broken10 broken11 is_guarded fits_data fits_code is_contiguous broken12 broken22 broken25 broken13 broken14 target_of is_entry lands broken15 is_word_broken is_file_broken is_ahead is_excused broken20 is_syscall0 is_back differs is_straight_broken straight_of
 sharp_accepted = (refl, (refl, (refl, (refl, tt))))
 
 pub straight_resumed : answers_of methods shortest.row.layout resumed_events (lent_of shortest.row) ≡ resumed_answers
