@@ -38,14 +38,14 @@ use Rattle.machine.proofs.Valid.{advance_regular, linked_regular}
 use Rattle.machine.proofs.Steps.{exit_leaves, step_valid, step_bytes, step_length}
 use Rattle.checker.specs.Check.{code_of}
 use Rattle.rules.specs.Not.{Not}
-use Rattle.checker.specs.Lawful.{Stands, flow_of, Lands, words_in, Lawful}
+use Rattle.checker.specs.Lawful.{Stands, Guarded, flow_of, Lands, words_in, Lawful}
 use Rattle.confinement.specs.Events.{is_data}
 use Rattle.confinement.specs.Demand.{Allowed, Untouched}
 use Rattle.confinement.proofs.Definitions.{says_true, allowed_says}
 use Rattle.confinement.proofs.ByKind.{Leads, Idle}
 use Rattle.confinement.proofs.Moves.{put_here, Moved, moves}
 use Rattle.confinement.proofs.Parts.{part_same}
-use Rattle.confinement.proofs.Areas.{Area, Data, Code, base_register, base_of, Uses, fits_mask, fits_below, base_aligned, code_bundles, size_most, joins, guard_of}
+use Rattle.confinement.proofs.Areas.{Area, Data, Code, base_register, base_of, Uses, Fits, fits_mask, fits_below, base_aligned, code_bundles, size_most, joins, guard_of}
 use Rattle.confinement.proofs.Invariant.{Aims, Ready, Way, onward, branched, Inside, stands_once, entry_ready, idle_next}
 use Rattle.confinement.proofs.Steps.{in_code, here, stands_here, operands_here, effect_is, step_is, leave, obeys_here, data_out, exit_is, step_untouched}
 
@@ -173,29 +173,37 @@ module _ (l : Layout) (len : ℕ) (img : List ℕ) (ok : Lawful l len img) where
     same k y e p = stands_once img i y x (subst (λ (n : ℕ). Stands img n y) e p) (stands_here l len img ok s m v)
 
     module _ (a : Area) (y : Instruction) (u : Uses a y) where
-      merged : i + 1 < words_in l → Stands img (i + 1) y → Aims l a y after.registers (base_of l a)
-      merged h t =
+      -- the OR adds the area's base to what the ANDI left
+      pub merged_to : i + 1 < words_in l → Stands img (i + 1) y → (d : ℕ) → register_of regs y.rs ≡ d → Fits l a y d → register_of after.registers y.rs ≡ base_of l a + d
+      merged_to h t d q f =
           let (mask, (g, _)) = guard_of l len img ok a (i + 1) y h t u in
           let (w, (p, (k, (rd, (rs, rt))))) = g.1.0.1 in
           let e : w ≡ x = same (i + 1 - 1) w (omega arith) p in
-          let (d, (q, f)) = v.position.ready.soon a y h t u in
           let val : bit_or base (register_of regs x.rt) ≡ base_of l a + d =
           ap₂ bit_or
-          (ap (register_of regs) (ap (λ (z : Instruction). z.rs) (sym e) ∙ rs) ∙ q ∙ zero-add d)
+          (ap (register_of regs) (ap (λ (z : Instruction). z.rs) (sym e) ∙ rs) ∙ q)
           (ap (register_of regs) (ap (λ (z : Instruction). z.rt) (sym e) ∙ rt) ∙ base_held a)
           ∙ joins l len img ok a d (fits_below l a y u d f) in
-          (d, (writes x.rd _ y.rs (by_kind_law (K.Alu Or) (ap (λ (z : Instruction). z.kind) (sym e) ∙ k)) (operands_here l len img ok s m v).rd (ap (λ (z : Instruction). z.rd) (sym e) ∙ rd) g.1.1.0 ∙ val, f))
+          writes x.rd _ y.rs (by_kind_law (K.Alu Or) (ap (λ (z : Instruction). z.kind) (sym e) ∙ k)) (operands_here l len img ok s m v).rd (ap (λ (z : Instruction). z.rd) (sym e) ∙ rd) g.1.1.0 ∙ val
 
-      masked : i + 1 + 1 < words_in l → Stands img (i + 1 + 1) y → Aims l a y after.registers 0
-      masked h t =
-          let (mask, (g, f)) = guard_of l len img ok a (i + 1 + 1) y h t u in
+      merged : i + 1 < words_in l → Stands img (i + 1) y → Aims l a y after.registers (base_of l a)
+      merged h t =
+          let (d, (q, f)) = v.position.ready.soon a y h t u in (d, (merged_to h t d (q ∙ zero-add d) f, f))
+
+      -- and the ANDI leaves what its mask lets through
+      pub masked_to : i + 1 + 1 < words_in l → (mask : ℕ) → Guarded img (i + 1 + 1) y.rs (base_register a) mask → Fits l a y mask → register_of after.registers y.rs ≡ bit_and base mask
+      masked_to h mask g f =
           let (w, (p, (k, (rt, vm)))) = g.1.0.0 in
           let e : w ≡ x = same (i + 1 + 1 - 2) w (omega arith) p in
           let low : x.value % 2 ^ 16 ≡ mask =
           ap (λ (n : ℕ). n % 2 ^ 16) (ap (λ (z : Instruction). z.value) (sym e) ∙ vm)
           ∙ (let b = fits_below l a y u mask f in omega (arith, b, size_most l len img ok a)) in
-          let val : bit_and base (x.value % 2 ^ 16) ≡ 0 + bit_and base mask = ap (bit_and base) low ∙ sym (zero-add (bit_and base mask)) in
-          (bit_and base mask, (writes x.rt _ y.rs (by_kind_law (K.Immediate Andi) (ap (λ (z : Instruction). z.kind) (sym e) ∙ k)) (operands_here l len img ok s m v).rt (ap (λ (z : Instruction). z.rt) (sym e) ∙ rt) g.1.1.0 ∙ val, fits_mask l a y u base mask f))
+          writes x.rt _ y.rs (by_kind_law (K.Immediate Andi) (ap (λ (z : Instruction). z.kind) (sym e) ∙ k)) (operands_here l len img ok s m v).rt (ap (λ (z : Instruction). z.rt) (sym e) ∙ rt) g.1.1.0 ∙ ap (bit_and base) low
+
+      masked : i + 1 + 1 < words_in l → Stands img (i + 1 + 1) y → Aims l a y after.registers 0
+      masked h t =
+          let (mask, (g, f)) = guard_of l len img ok a (i + 1 + 1) y h t u in
+          (bit_and base mask, (masked_to h mask g f ∙ sym (zero-add (bit_and base mask)), fits_mask l a y u base mask f))
 
     step_ready : Way l img i j → Ready l img j after.registers
     step_ready (onward e h) =

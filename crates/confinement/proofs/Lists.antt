@@ -15,7 +15,7 @@ use Rattle.std.specs.Prelude.{Option, None, Some}
 use Rattle.effect.specs.declared.effect.Touched.{Touched}
 use Rattle.effect.specs.declared.effect.Touched.TheVariants.{Load, Store}
 use Rattle.effect.specs.Touched.{last_of, cell_of}
-use Rattle.machine.specs.Apply.{Span, span_of}
+use Rattle.machine.specs.Apply.{Machine, Span, span_of}
 use Rattle.machine.specs.Step.{access_at, Outcome, step_of}
 use Rattle.machine.specs.Run.{Course, repeat_of, run_of}
 use Rattle.machine.specs.Resume.{is_served, resume_of}
@@ -23,7 +23,7 @@ use Rattle.machine.proofs.Steps.{step_touches}
 use Rattle.machine.proofs.Runs.{run_repeats}
 use Rattle.checker.specs.Lawful.{Stands, Lawful}
 use Rattle.checker.specs.Refusal.{All}
-use Rattle.checker.proofs.Trials.{join}
+use Rattle.checker.proofs.Trials.{join, implied}
 use Rattle.confinement.specs.Events.{Write, Event, Step, Run, Resume, Change, is_other, may_write}
 use Rattle.confinement.specs.Calls.{Lent, lent, Reply, put_state, methods}
 use Rattle.confinement.specs.Lists.{is_exit, may_all, put_byte, put_all, stands, event_of, list_of, run_tries, tries, list_tries}
@@ -102,13 +102,16 @@ module _ (l : Layout) (len : ℕ) (img : List ℕ) (ok : Lawful l len img) where
   run_inside n s m v =
       subst (Reached m) (run_repeats s m n (unrefused l len img ok s m v)) (repeat_left n s m v)
 
-  -- each of its steps, the exiting one too, fetches from the code and accesses the data alone
-  pub run_confined : (n : ℕ) (s : State) (m : List ℕ) → Inside l len img s m → All (Confined l) (run_tries n s m)
-  run_confined zero s m v = tt
-  run_confined (suc n) s m v = (
-    confined l len img ok s m v,
-    by_zero (All (Confined l)) (step_of s m).number
-        (λ _. run_confined n (step_of s m).machine.state (step_of s m).machine.memory (step_inside l len img ok s m v))
+  abbrev Tried : Machine → Type 0
+  Tried t = Inside l len img t.state t.memory
+
+  -- each of its steps, the exiting one too, is tried inside
+  run_tried : (n : ℕ) (s : State) (m : List ℕ) → Inside l len img s m → All Tried (run_tries n s m)
+  run_tried zero s m v = tt
+  run_tried (suc n) s m v = (
+    v,
+    by_zero (All Tried) (step_of s m).number
+        (λ _. run_tried n (step_of s m).machine.state (step_of s m).machine.memory (step_inside l len img ok s m v))
         (λ _. tt),
   )
 
@@ -203,13 +206,11 @@ module _ (l : Layout) (len : ℕ) (img : List ℕ) (ok : Lawful l len img) where
     event_left (Change xs) = change_left xs
 
     -- the steps that it tries
-    event_confined : (e : Event) → All (Confined l) (tries methods l e w)
-    event_confined Step =
-        by_zero (All (Confined l)) (refusal_of s (length m)) (λ _. (confined l len img ok s m v, tt)) (λ _. tt)
-    event_confined (Run n) = by_zero (All (Confined l)) (refusal_of s (length m)) (λ _. run_confined n s m v) (λ _. tt)
-    event_confined Resume =
-        by_zero (All (Confined l)) (refusal_of s (length m)) (λ _. (confined l len img ok s m v, tt)) (λ _. tt)
-    event_confined (Change xs) = tt
+    event_tried : (e : Event) → All Tried (tries methods l e w)
+    event_tried Step = by_zero (All Tried) (refusal_of s (length m)) (λ _. (v, tt)) (λ _. tt)
+    event_tried (Run n) = by_zero (All Tried) (refusal_of s (length m)) (λ _. run_tried n s m v) (λ _. tt)
+    event_tried Resume = by_zero (All Tried) (refusal_of s (length m)) (λ _. (v, tt)) (λ _. tt)
+    event_tried (Change xs) = tt
 
   -- ---- a list
 
@@ -230,9 +231,14 @@ module _ (l : Layout) (len : ℕ) (img : List ℕ) (ok : Lawful l len img) where
   list_touched (e ∷ es) w v =
       let r = event_left w v e in (r.answered.1, list_touched es (event_of methods l e w).left r.inside)
 
+  pub list_tried : (es : List Event) (w : Lent State) → Inside l len img w.state w.memory → All Tried (list_tries methods l es w)
+  list_tried [] w v = tt
+  list_tried (e ∷ es) w v =
+      join Tried (tries methods l e w) (list_tries methods l es (event_of methods l e w).left)
+      (event_tried w v e)
+      (list_tried es (event_of methods l e w).left (event_left w v e).inside)
+
+  -- every step tried, by whatever call, fetches from the code and accesses the data alone
   pub list_confined : (es : List Event) (w : Lent State) → Inside l len img w.state w.memory → All (Confined l) (list_tries methods l es w)
-  list_confined [] w v = tt
-  list_confined (e ∷ es) w v =
-      join (Confined l) (tries methods l e w) (list_tries methods l es (event_of methods l e w).left)
-      (event_confined w v e)
-      (list_confined es (event_of methods l e w).left (event_left w v e).inside)
+  list_confined es w v =
+      implied Tried (Confined l) (λ t h. confined l len img ok t.state t.memory h) (list_tries methods l es w) (list_tried es w v)

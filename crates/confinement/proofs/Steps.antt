@@ -62,7 +62,7 @@ data_out l a (inl h) = rw (lt-leb l.data_base a h)
 data_out l a (inr h) = rw (le-ltb a (l.data_base + l.data_size) h, le-leb l.data_base a (omega arith))
 
 -- an offset that isn't negative is added to the base as it is
-address_is : (b o v : ℕ) → offset_of v ≡ pos o → b + o < 2 ^ 32 → address_of b v ≡ b + o
+pub address_is : (b o v : ℕ) → offset_of v ≡ pos o → b + o < 2 ^ 32 → address_of b v ≡ b + o
 unfolding address_of extend_of offset_of
 address_is b o v e h = rw e (omega arith)
 

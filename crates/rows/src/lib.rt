@@ -1,0 +1,2 @@
+// Where a guarded access goes: definitions in specs/, theorems in proofs/; no code of its own.
+#![tactic(auto)]
