@@ -115,6 +115,10 @@ module _ (l : Layout) (len : ℕ) (img : List ℕ) (ok : Lawful l len img) where
         (λ _. tt),
   )
 
+  -- so it fetches from the code and accesses the data alone
+  pub run_confined : (n : ℕ) (s : State) (m : List ℕ) → Inside l len img s m → All (Confined l) (run_tries n s m)
+  run_confined n s m v = implied Tried (Confined l) (λ t h. confined l len img ok t.state t.memory h) (run_tries n s m) (run_tried n s m v)
+
   -- ---- a change by the host, where the word at PC is in no guard
 
   module _ (i : ℕ) (x : Instruction) (st : Stands img i x) (h : Idle x.kind) where
