@@ -14,27 +14,29 @@
 # make bench: speed beside plain C and, where it is installed, Unicorn. make bench BEFORE=FILE: beside another archive too, whose calls have the
 # same arguments and answers.
 SHELL = /bin/bash
-VERSION = 1.8
+VERSION = 1.9
 PREFIX = /usr/local
 CC = cc
 CFLAGS = -O2 -Wall -Wextra -Werror -Iinclude -Ibench
 ARCHIVE = target/libcc100.a
 VERDICT = target/bin/verdict
 # The calls, behind cc100_.
-EXPORTED = check check_placed check_straight run step resume read write allocate release
+EXPORTED = check check_placed check_straight start run step resume read write allocate release
 # The libraries for C that they are in. Each is compiled by itself, so that what two calls share is inlined into both, and begins a page, so that
 # its speed does not hang on where a host's linker puts it. Five begin some bytes into their page, where they are fastest (docs/DECISIONS.md, Pages).
-CALLS = cc100_instruction_c cc100_step_c cc100_run cc100_resume cc100_check cc100_check_placed cc100_check_straight cc100_allocate \
-    cc100_release
+CALLS = cc100_instruction_c cc100_step_c cc100_run cc100_resume cc100_check cc100_check_placed cc100_check_straight cc100_start \
+    cc100_allocate cc100_release
 BEGUN = cc100_run:28 cc100_check:24 cc100_check_straight:4 cc100_allocate:28 cc100_release:4
 PAGE = 4096
-PLAIN = bench/plain_read.c bench/plain_step.c bench/plain_check.c bench/plain_areas.c
+PLAIN = bench/plain_read.c bench/plain_step.c bench/plain_check.c bench/plain_start.c bench/plain_areas.c
 TIMED = bench/timing.c $(PLAIN)
 # The benchmark of runs has one column more where Unicorn is installed (Debian's libunicorn-dev).
 UNICORN = $(shell pkg-config --exists unicorn 2> /dev/null && echo -DUNICORN bench/unicorn.c -lunicorn)
-# Another archive's calls, by names of their own; before release 1.3 there was no check for straight-through modules, and before 1.7 no areas.
+# Another archive's calls, by names of their own; before release 1.3 there was no check for straight-through modules, before 1.7
+# no areas, and before 1.9 no start.
 HAS = $(if $(shell nm $(BEFORE) | grep -w cc100_$(1)),$(2))
-OTHER = $(if $(BEFORE),-DBEFORE $(call HAS,check_straight,-DBEFORE_STRAIGHT) $(call HAS,allocate,-DBEFORE_AREAS) target/bench/before.a)
+OTHER = $(if $(BEFORE),-DBEFORE $(call HAS,check_straight,-DBEFORE_STRAIGHT) $(call HAS,allocate,-DBEFORE_AREAS) \
+    $(call HAS,start,-DBEFORE_START) target/bench/before.a)
 # The samples that have a source.
 ASSEMBLED = m margin totals forgotten holes
 EMULATOR = $(wildcard tests/emulator/*.c)
@@ -112,8 +114,9 @@ command-test: command $(VERDICT)
 	@mkdir -p target/tests
 	@$(CC) $(CFLAGS) $(NAMED) $(SANITIZED) -o target/tests/cc100 $(COMMAND) $(ARCHIVE)
 	@$(CC) $(CFLAGS) -Itests/emulator -o target/tests/emulated tests/command/emulated.c $(EMULATOR)
-	@python3 tests/command/test.py target/bin/cc100 $(VERDICT) target/tests/emulated
-	@python3 tests/command/test.py target/tests/cc100 $(VERDICT) target/tests/emulated
+	@$(CC) $(CFLAGS) $(NAMED) -Dcc100_start=refused_start -o target/tests/refusing $(COMMAND) tests/command/refused_start.c $(ARCHIVE)
+	@python3 tests/command/test.py target/bin/cc100 $(VERDICT) target/tests/emulated target/tests/refusing
+	@python3 tests/command/test.py target/tests/cc100 $(VERDICT) target/tests/emulated target/tests/refusing
 	@python3 tests/objdump/compare.py target/bin/cc100
 
 install-test:
@@ -159,9 +162,11 @@ bench: $(ARCHIVE)
 	@[ -z "$(BEFORE)" ] || objcopy $(foreach c,$(EXPORTED),--redefine-sym cc100_$c=before_$c) $(BEFORE) target/bench/before.a
 	@$(CC) $(CFLAGS) -o target/bench/read bench/read.c $(TIMED) $(ARCHIVE) $(OTHER)
 	@$(CC) $(CFLAGS) -o target/bench/run bench/run.c $(TIMED) $(ARCHIVE) $(OTHER) $(UNICORN)
-	@$(CC) $(CFLAGS) -o target/bench/check bench/check.c $(TIMED) $(ARCHIVE) $(OTHER)
+	@$(CC) $(CFLAGS) -o target/bench/check bench/check.c bench/modules.c $(TIMED) $(ARCHIVE) $(OTHER)
+	@$(CC) $(CFLAGS) -o target/bench/start bench/start.c bench/modules.c $(TIMED) $(ARCHIVE) $(OTHER)
 	@$(CC) $(CFLAGS) -o target/bench/areas bench/areas.c $(TIMED) $(ARCHIVE) $(OTHER)
 	@target/bench/read
 	@target/bench/run
 	@target/bench/check
+	@target/bench/start
 	@target/bench/areas

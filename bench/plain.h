@@ -14,6 +14,12 @@ typedef struct cc100_verdict plain_checker(uint64_t memory_length, uint32_t code
                                            uint32_t data_size, const uint8_t *image, size_t image_length);
 plain_checker plain_check, plain_check_straight;
 
+/* The start of a module: the arguments and the verdict of cc100_start. */
+typedef struct cc100_verdict plain_starter(uint32_t code_base, uint32_t code_size, uint32_t data_base, uint32_t data_size, const uint8_t *image,
+                                           size_t image_length, uint8_t *state, size_t state_length, const uint8_t *memory,
+                                           size_t memory_length);
+plain_starter plain_start;
+
 /* The 41 words of a state, in document 01's order. */
 struct plain_state {
     uint32_t r[32], hi, lo, pc, next_pc, ll, bad, status, cause, epc;

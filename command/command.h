@@ -1,6 +1,6 @@
 /* What the subcommands of cc100 share. Nothing here decides what a call of cc100.h decides: what a word is comes from cc100_read, what a
-   module may do from cc100_check and cc100_check_straight, what it does from cc100_run and cc100_step, and which areas are given and taken back
-   from cc100_allocate and cc100_release. */
+   module may do from cc100_check and cc100_check_straight, whether it is started right from cc100_start, what it does from cc100_run and cc100_step, and
+   which areas are given and taken back from cc100_allocate and cc100_release. */
 #ifndef COMMAND_H
 #define COMMAND_H
 
@@ -98,7 +98,7 @@ struct refusal {
 struct exit_name {
     const char *name, *when;
 };
-#define LAST_REFUSAL 25u
+#define LAST_REFUSAL 27u
 #define FIRST_EXIT CC100_EXIT_INTEGER_OVERFLOW
 #define LAST_EXIT CC100_EXIT_STOP_CORES
 const struct refusal *refusal_of(uint32_t number); /* NULL where there is none */

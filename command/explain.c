@@ -115,8 +115,8 @@ static void explain_straight(const struct excerpt *e)
 static void explain_accepted(const struct excerpt *e, bool straight)
 {
     printf("%s is accepted, %" PRIu32 " words\n\n", name_of(e->module->path), e->module->length / 4);
-    print_wrapped("", "Started as a host has to start it, it stays in its own code and data, and its run ends only in Integer Overflow, "
-                      "System Call, Breakpoint or Trap. That is proved of every module that is accepted.");
+    print_wrapped("", "Placed and started by cc100_start, it stays in its own code and data, and its run ends only in Integer Overflow, System "
+                      "Call, Breakpoint or Trap. That is proved of every module that is accepted.");
     if (straight)
         explain_straight(e);
     print_layout(e);

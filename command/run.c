@@ -1,4 +1,4 @@
-/* cc100 run: checks a report module, runs it and hands it figures. A host program of one's own can begin from here.
+/* cc100 run: checks a report module, places and starts it, runs it and hands it figures. A host program of one's own can begin from here.
 
    The convention between this command and its modules: SYSCALL with code 0 asks for the next figure. The command puts the figure's place in
    the data area, a multiple of 4, into register 8 and the figure into register 9, and resumes the module. When a module asks and no figures
@@ -43,7 +43,8 @@ struct run {
 static uint32_t register_of(const struct run *r, uint32_t number) { return cc100_get_word(r->machine.state + CC100_REGISTER(number)); }
 static void set_register(struct run *r, uint32_t number, uint32_t word) { cc100_set_word(r->machine.state + CC100_REGISTER(number), word); }
 
-static void say_refused(const struct options *o, const struct module *m, cc100_verdict v)
+/* Refused by the check, or by the start. */
+static void say_refused(const struct options *o, const struct module *m, const char *how, cc100_verdict v)
 {
     char place[32] = "";
     if (v.place != CC100_NO_PLACE)
@@ -53,18 +54,19 @@ static void say_refused(const struct options *o, const struct module *m, cc100_v
         print_verdict_members(m->path, v, 0);
         printf("}\n");
     }
-    complain("%s is refused, number %" PRIu32 "%s: %s", name_of(m->path), v.number, place, refusal_of(v.number)->meaning);
+    complain("%s %s, number %" PRIu32 "%s: %s", name_of(m->path), how, v.number, place, refusal_of(v.number)->meaning);
 }
 
-/* In user mode at the first word, registers 26 and 27 as the guards of a module need them. All else is 0. */
-static void start(struct run *r)
+/* The placed module is started with the bases of its areas in registers 26 and 27, as its guards need them. All else of the state is 0, until the
+   call sets the program counters and the mode. */
+static cc100_verdict start(struct run *r, const struct module *m)
 {
-    uint8_t *state = r->machine.state;
-    cc100_set_word(state + CC100_PC, r->layout.code_base);
-    cc100_set_word(state + CC100_NEXT_PC, r->layout.code_base + 4);
-    cc100_set_word(state + CC100_STATUS, CC100_STATUS_USER);
-    set_register(r, 26, r->layout.data_base);
-    set_register(r, 27, r->layout.code_base);
+    const struct layout *l = &r->layout;
+    struct machine *x = &r->machine;
+    set_register(r, 26, l->data_base);
+    set_register(r, 27, l->code_base);
+    return cc100_start(l->code_base, l->code_size, l->data_base, l->data_size, m->image, m->length, x->state, sizeof x->state, x->memory,
+                       x->memory_length);
 }
 
 static const uint8_t *data_of(const struct run *r) { return r->machine.memory + r->layout.data_base; }
@@ -252,6 +254,17 @@ static void say_started(const struct run *r, const struct module *m)
     }
 }
 
+static enum status start_and_serve(struct run *r, const struct module *m)
+{
+    cc100_verdict v = start(r, m);
+    if (v.number != CC100_DONE) {
+        say_refused(r->options, m, "cannot be started", v);
+        return STATUS_REFUSED;
+    }
+    say_started(r, m);
+    return serve(r);
+}
+
 /* The module is accepted, so that its areas lie inside memory, which is not too long. */
 static enum status run_accepted(struct run *r, const struct module *m)
 {
@@ -264,9 +277,7 @@ static enum status run_accepted(struct run *r, const struct module *m)
         complain("there is no room for %zu bytes of memory", r->machine.memory_length);
     } else if (read_inputs(r)) {
         memcpy(r->machine.memory + r->layout.code_base, m->image, m->length);
-        start(r);
-        say_started(r, m);
-        status = serve(r);
+        status = start_and_serve(r, m);
     }
     free(r->machine.memory);
     free(r->figures);
@@ -282,14 +293,14 @@ static enum status run(const struct options *o)
     cc100_verdict v = check_module(&m, o, &r.layout);
     if (v.number == CC100_DONE)
         return run_accepted(&r, &m);
-    say_refused(o, &m, v);
+    say_refused(o, &m, "is refused", v);
     return STATUS_REFUSED;
 }
 
 const struct subcommand run_command = {
     RUN, "run", "FILE", "checks a module and runs it to the end of its report",
-    "Checks a module and, where it is accepted, runs it from its first word with the\n"
-    "rows in its data area. SYSCALL 0 asks for the next figure: its place goes into\n"
+    "Checks a module and, where it is accepted, starts it, with the rows in its data\n"
+    "area, and runs it. SYSCALL 0 asks for the next figure: its place goes into\n"
     "register 8 and the figure into register 9. SYSCALL 1 says that the report is\n"
     "complete, with the total in register 8 and the rate in register 9. With --straight\n"
     "the SYSCALL 0 of the last bundle says so too, with the total in register 8 and no\n"

@@ -11,6 +11,7 @@
     "Of a module, first whoever sent the file: it may have been cut off or added to on its way. Where it is whole, whoever set up the server. " \
     "Of an area, whoever asked for it or handed it back."
 #define HOST "Whoever writes the host program: the number is about its call, and not about the module."
+#define PLACER "Whoever places and starts modules: the number is about what is in memory or in a register, and not about the module."
 #define KEEPER "Whoever places modules by the record: the number is about the areas that are out, and not about a module."
 
 static const struct refusal refusals[LAST_REFUSAL] = {
@@ -76,6 +77,12 @@ static const struct refusal refusals[LAST_REFUSAL] = {
      "The word is the guard's ANDI, two before the access.", "module M with 0x31080034 at word 0",
      "Compiler: the guard words are right, and no access leaves the data; make the mask m a power of two less the access's width, which is the size "
      "of a table less the width, and let the register hold the place of a cell in it, and not of a row.", COMPILER},
+    {"A byte of the code area is not that of the image: the module was not placed there, or something else was written over it.",
+     "module M with 0x25290001 at 0x10010 in memory",
+     "Put the whole image into the code area anew, and start it before anything else writes there. Start a module that was linked for its place with the "
+     "linked image. See that no other module's area reaches into this one.", PLACER},
+    {"Register 26 is not the data base, or register 27 is not the code base.", "register 27 is 0",
+     "Put the data base into register 26 and the code base into register 27, as they are told in the call, and start the module then.", PLACER},
 };
 
 static const struct exit_name exits[LAST_EXIT - FIRST_EXIT + 1] = {

@@ -87,8 +87,8 @@ void make_quiet(struct module *m, struct layout l);
 void make_straight(struct module *m, struct layout l);
 void put_guard(struct module *m, uint32_t at, uint32_t r, uint32_t mask, uint32_t base); /* ANDI R,4,mask and OR R,R,base, two words */
 
-/* The module is checked by the calls, as an image and placed, and by plain C: in pages that can only be read, with nothing to touch behind
-   them. */
+/* The module is checked by the calls, as an image and placed, and by plain C, and is started: in pages that can only be read, with nothing to touch
+   behind them. */
 void expect_verdict(const struct module *m, uint32_t number, uint32_t place);
 void expect_accepted(const struct module *m);
 void expect_straight(const struct module *m, uint32_t number, uint32_t place); /* by the calls for straight-through modules */
@@ -105,13 +105,22 @@ int fits(int64_t number);                                 /* in 32 bits, as a si
 
 /* Places the module of a file in memory of the usual length, and gives its length in bytes. */
 uint32_t place_sample(struct machine *m, const char *path);
-/* Starts a module of the usual layout, as a host has to; what that leaves open is random. */
-void start_module(struct machine *m);
+/* Starts the placed module by the call, with the usual layout but for its code size; the registers that it may use are random. */
+void start_module(struct machine *m, uint32_t code_size);
 /* What a module works with is its own affair: these places of the state are wanted as they came. */
 void want_as_came(struct machine *m, const uint32_t *places, size_t count);
 
 /* Room of whole pages between pages that cannot be touched. */
 uint8_t *page(size_t size);
+
+/* The same for bytes that are lent. While a room is closed they can only be read; the first opening makes it, with room for so many. */
+struct room {
+    uint8_t *bytes;
+    size_t size;
+};
+void open_room(struct room *r, size_t length);
+void close_room(struct room *r);
+void write_image(const struct module *m, uint8_t *to);
 
 /* The tests, each in the file of its name. */
 void test_instructions(void);
@@ -129,6 +138,7 @@ void test_check(void);
 void test_words(void);
 void test_guards(void);
 void test_straight(void);
+void test_start(void);
 void test_finish(void);
 void test_margin(void);
 void test_totals(void);

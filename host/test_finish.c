@@ -11,7 +11,7 @@ static struct machine started(void)
     struct machine x = lend(CC100_STATE_LENGTH, usual.memory_length);
     for (uint32_t i = 0; i < m.layout.code_size / 4; i++)
         put_memory(&x, usual.code_base + 4 * i, m.words[i]);
-    start_module(&x);
+    start_module(&x, m.layout.code_size);
     return x;
 }
 

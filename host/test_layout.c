@@ -1,4 +1,4 @@
-/* Modules as the tests make them, and the checker's calls on them. */
+/* Modules as the tests make them, and the checker's calls and the start on them. */
 #include <string.h>
 #include <sys/mman.h>
 #include <unistd.h>
@@ -29,7 +29,7 @@ void put_guard(struct module *m, uint32_t at, uint32_t r, uint32_t mask, uint32_
     m->words[at + 1] = word_of(OR, r, base, r, 0);
 }
 
-static void write_image(const struct module *m, uint8_t *to)
+void write_image(const struct module *m, uint8_t *to)
 {
     for (size_t i = 0; i < m->length; i++)
         to[i] = (uint8_t)(m->words[i / 4] >> 8 * (i % 4));
@@ -41,13 +41,7 @@ static void expect_same(const char *number_of, const char *place_of, cc100_verdi
     expect_number(place_of, expected.place, came.place);
 }
 
-/* Bytes that end where a page begins that cannot be touched. While it is closed they can only be read. */
-struct room {
-    uint8_t *bytes;
-    size_t size;
-};
-
-static void open_room(struct room *r, size_t length)
+void open_room(struct room *r, size_t length)
 {
     size_t size = (size_t)sysconf(_SC_PAGESIZE);
     if (!r->bytes) {
@@ -57,7 +51,7 @@ static void open_room(struct room *r, size_t length)
     mprotect(r->bytes, r->size, PROT_READ | PROT_WRITE);
 }
 
-static void close_room(struct room *r) { mprotect(r->bytes, r->size, PROT_READ); }
+void close_room(struct room *r) { mprotect(r->bytes, r->size, PROT_READ); }
 
 /* Gives the module's image. */
 static const uint8_t *closed_image(const struct module *m)
@@ -76,8 +70,23 @@ static cc100_verdict checked(plain_checker *check, const struct module *m, const
     return check(l->memory_length, l->code_base, l->code_size, l->data_base, l->data_size, image, m->length);
 }
 
-/* What else is in memory is what other modules left there. A layout that is refused may have its code area outside memory. */
-static void check_placed(const struct module *m, cc100_verdict expected)
+/* The start of a placed module with the bases in their registers, which refuses what the checker does, with its place. */
+static void check_started(const struct module *m, cc100_verdict expected, const uint8_t *image, const uint8_t *memory)
+{
+    const struct layout *l = &m->layout;
+    uint8_t state[CC100_STATE_LENGTH] = {0};
+    uint32_t pc = expected.number == CC100_DONE ? l->code_base : 0;
+    cc100_set_word(state + CC100_REGISTER(DATA_REGISTER), l->data_base);
+    cc100_set_word(state + CC100_REGISTER(CODE_REGISTER), l->code_base);
+    expect_same("number of cc100_start", "place of cc100_start", expected,
+                cc100_start(l->code_base, l->code_size, l->data_base, l->data_size, image, m->length, state, sizeof state, memory,
+                            (size_t)l->memory_length));
+    expect_number("PC after cc100_start", pc, cc100_get_word(state + CC100_PC));
+}
+
+/* What else is in memory is what other modules left there. A layout that is refused may have its code area outside memory. An image of another length
+   than the code area cannot be placed: that area's bytes would be the image. */
+static void check_in_memory(const struct module *m, cc100_verdict expected, const uint8_t *image)
 {
     static struct room room;
     const struct layout *l = &m->layout;
@@ -86,19 +95,20 @@ static void check_placed(const struct module *m, cc100_verdict expected)
     if (l->code_base + (uint64_t)m->length <= l->memory_length)
         write_image(m, memory + l->code_base);
     close_room(&room);
-    expect_same("number of cc100_check_placed", "place of cc100_check_placed", expected,
-                cc100_check_placed(l->code_base, l->code_size, l->data_base, l->data_size, memory, (size_t)l->memory_length));
+    if (expected.number != CC100_REFUSED_IMAGE_LENGTH)
+        expect_same("number of cc100_check_placed", "place of cc100_check_placed", expected,
+                    cc100_check_placed(l->code_base, l->code_size, l->data_base, l->data_size, memory, (size_t)l->memory_length));
+    check_started(m, expected, image, memory);
 }
 
-/* An image of another length than the code area cannot be placed: that area's bytes would be the image. */
 void expect_verdict(const struct module *m, uint32_t number, uint32_t place)
 {
     cc100_verdict expected = {number, place};
     const uint8_t *image = closed_image(m);
     expect_same("number of cc100_check", "place of cc100_check", expected, checked(cc100_check, m, image));
     expect_same("number of plain_check", "place of plain_check", expected, checked(plain_check, m, image));
-    if (m->layout.memory_length <= CC100_LONGEST_MEMORY + 1 && number != CC100_REFUSED_IMAGE_LENGTH)
-        check_placed(m, expected);
+    if (m->layout.memory_length <= CC100_LONGEST_MEMORY + 1)
+        check_in_memory(m, expected, image);
 }
 
 void expect_accepted(const struct module *m) { expect_verdict(m, CC100_DONE, CC100_NO_PLACE); }

@@ -90,6 +90,7 @@ int main(int count, char **arguments)
     test_words();
     test_guards();
     test_straight();
+    test_start();
     test_finish();
     test_margin();
     test_totals();

@@ -2,6 +2,7 @@
 #include "test.h"
 
 #define MODULE "samples/margin.module"
+#define CODE_SIZE 256u
 #define TABLES 5000
 #define BUDGET 1000u /* steps; a whole report takes 334 */
 #define COMPLETE 0x0000004Cu /* SYSCALL 1 */
@@ -98,7 +99,7 @@ static void limits(struct machine *m)
     for (size_t i = 0; i < sizeof first / sizeof first[0]; i++) {
         struct row rows[ROWS] = {first[i]};
         calling(MODULE ", limits, table %zu", i);
-        start_module(m);
+        start_module(m, CODE_SIZE);
         expect_report(m, rows);
     }
 }
@@ -115,7 +116,7 @@ static void random_tables(struct machine *m)
             want_resumed(m);
             expect_resume(m, CC100_DONE);
         } else {
-            start_module(m);
+            start_module(m, CODE_SIZE);
         }
         number = expect_report(m, rows);
         met[number]++;
@@ -132,6 +133,7 @@ void test_margin(void)
     uint32_t length = place_sample(&m, MODULE);
     cc100_verdict v = cc100_check_placed(usual.code_base, length, usual.data_base, usual.data_size, m.memory.bytes, m.memory.length);
     calling(MODULE);
+    expect_number("bytes of code", CODE_SIZE, length);
     expect_number("number of cc100_check_placed", CC100_DONE, v.number);
     expect_number("place of cc100_check_placed", CC100_NO_PLACE, v.place);
     limits(&m);

@@ -51,14 +51,19 @@ uint32_t place_sample(struct machine *m, const char *path)
     return length;
 }
 
-void start_module(struct machine *m)
+void start_module(struct machine *m, uint32_t code_size)
 {
+    const uint8_t *image = m->memory.bytes + usual.code_base;
     for (uint32_t place = CC100_REGISTER(1); place <= CC100_LO; place += 4)
         put_state(m, place, next_random());
     put_state(m, CC100_REGISTER(DATA_REGISTER), usual.data_base);
     put_state(m, CC100_REGISTER(CODE_REGISTER), usual.code_base);
-    put_state(m, CC100_STATUS, CC100_STATUS_USER);
-    put_pc(m, usual.code_base);
+    cc100_verdict v = cc100_start(usual.code_base, code_size, usual.data_base, usual.data_size, image, code_size, m->state.bytes, m->state.length,
+                                  m->memory.bytes, m->memory.length);
+    want_pc(m, usual.code_base, usual.code_base + 4);
+    want_state(m, CC100_STATUS, CC100_STATUS_USER);
+    expect_number("number of cc100_start", CC100_DONE, v.number);
+    expect_left(m);
 }
 
 void want_as_came(struct machine *m, const uint32_t *places, size_t count)

@@ -42,7 +42,7 @@ static uint32_t calculate(struct machine *m, int64_t *total, const struct row *r
 static uint32_t expect_report(struct machine *m, const struct row *rows)
 {
     int64_t total = 0;
-    start_module(m);
+    start_module(m, 4 * WORDS);
     put_rows(m, rows);
     uint32_t number = calculate(m, &total, rows);
     cc100_ran ran = run(m, MOST_STEPS + 1);

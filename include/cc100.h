@@ -4,26 +4,24 @@
    two things of its caller:
 
    - a pointer and the length beside it are those of bytes that the caller owns; the pointer is not NULL, also where the length is 0;
-   - state and memory do not overlap.
+   - state and memory do not overlap, and neither do state and image. An image may be a part of the memory.
 
    A call that refuses leaves every byte as it was.
 
-   A module is confined, which is proved for every list of cc100_step, cc100_run and cc100_resume in any order, where the host
+   A module is confined, which is proved for every list of cc100_step, cc100_run and cc100_resume in any order, after a cc100_start that answers
+   CC100_DONE. What is left to the host in it:
 
-   - has it accepted by cc100_check, cc100_check_placed or cc100_check_straight for the layout and memory length that it then runs in, and
-     places it unchanged;
-   - starts it with PC at the code base, next PC four more, register 26 the data base, register 27 the code base, register 0 zero, and a status
-     with CC100_STATUS_USER set; all else in state and memory may be anything that is not refused;
-   - hands each call the state and memory that the last one left, and changes in them only registers 1 to 25 and 28 to 31, HI, LO and bytes of
-     the data area, and these only where the step of the state ends in an exit.
+   - it hands each call the state and memory that the last one left, the first of them those of the start;
+   - it changes in them only registers 1 to 25 and 28 to 31, HI, LO and bytes of the data area, and these only where the step of the state ends in
+     an exit.
 
    Then every fetch is from its code area and every load and store in its data area, and so is every access that an answer carries; no exits
    are met but CC100_EXIT_INTEGER_OVERFLOW, CC100_EXIT_SYSTEM_CALL, CC100_EXIT_BREAKPOINT and CC100_EXIT_TRAP, and all other memory keeps its
    bytes and has no influence.
 
-   A module that cc100_check_straight accepts is confined too, and started as above it is known to finish: it meets its first exit after at
-   most four fewer completed steps than it has words. It completes no more than that, however often it is resumed, until it is resumed at the
-   exit of its last bundle; and at any time a run of as many steps as it has words ends in an exit.
+   A module that cc100_check_straight accepts too, for the same layout, memory length and image, is known to finish, started in the same way: it meets its
+   first exit after at most four fewer completed steps than it has words. It completes no more than that, however often it is resumed, until it is
+   resumed at the exit of its last bundle; and at any time a run of as many steps as it has words ends in an exit.
 
    Areas for modules are given by cc100_allocate and taken back by cc100_release, by a record that the host keeps. After every list of these
    two calls on a record that began as zeros, refused calls included, no two areas out overlap. */
@@ -38,7 +36,7 @@ extern "C" {
 #endif
 
 /* Numbers that calls answer: done, refusals as documents 01 and 02 number them, and exits. */
-#define CC100_DONE 0u /* a module accepted, a step completed, a run still running, a resume given, a word written, an area given or taken back */
+#define CC100_DONE 0u /* a module accepted or started, a step completed, a run still running, a resume given, a word written, an area given or taken back */
 
 #define CC100_REFUSED_MEMORY 1u         /* memory is longer than CC100_LONGEST_MEMORY */
 #define CC100_REFUSED_CODE_SIZE 2u      /* the code size, or an area's size, is not a power of two from 16 to 65,536 */
@@ -65,6 +63,8 @@ extern "C" {
 #define CC100_REFUSED_NO_SPACE 23u      /* at every multiple of its size an area would overlap one that is out */
 #define CC100_REFUSED_RECORD 24u        /* the keeper's record has another length or is not sound, or an area handed back is not out: see below */
 #define CC100_REFUSED_MASK_HOLE 25u     /* an access with its guard words, whose mask plus width is not a power of two */
+#define CC100_REFUSED_CODE_BYTES 26u    /* a byte of the code area differs from the image */
+#define CC100_REFUSED_BASES 27u         /* register 26 is not the data base, or register 27 not the code base */
 
 #define CC100_NO_PLACE 0xFFFFFFFFu /* the place of a verdict that names no word, and the base of an area that is not given */
 
@@ -134,7 +134,7 @@ static inline void cc100_set_word(uint8_t *bytes, uint32_t word)
 
 /* What the checker says of a module: `number` is CC100_DONE, which accepts it, or a refusal, 1 to 16, 22 or 25, and of a straight-through module
    also 20 or 21. `place` is the index of the word that 8 to 16 and 20 refuse; of 22 and 25 that of the guard's ANDI, two words before the access;
-   and else CC100_NO_PLACE. */
+   and else CC100_NO_PLACE. A start says the same of its module, and can also refuse by 17, 26 or 27, which have no place. */
 typedef struct cc100_verdict {
     uint32_t number, place;
 } cc100_verdict;
@@ -183,12 +183,22 @@ cc100_verdict cc100_check_placed(uint32_t code_base, uint32_t code_size, uint32_
 
 /* Checks a straight-through module before it is placed: as cc100_check, with two rules more. No word is JR or JALR, and every direct target is
    at least two words after its branch and not past the last bundle's start, but for a J to that start in the last word but one; and the last
-   bundle is SYSCALL with code 0, a zero word, J to its own start, a zero word. Started as above, such a module ends in an exit where a run's
+   bundle is SYSCALL with code 0, a zero word, J to its own start, a zero word. Started by cc100_start, such a module ends in an exit where a run's
    budget is more than the number of its words less four. One that is refused by these two rules may still be accepted by cc100_check.
    Refuses as cc100_check; also, at each word after 15, by CC100_REFUSED_STRAIGHT, and after 16 by CC100_REFUSED_LAST_BUNDLE, which names no
    word. */
 cc100_verdict cc100_check_straight(uint64_t memory_length, uint32_t code_base, uint32_t code_size, uint32_t data_base, uint32_t data_size,
                                    const uint8_t *image, size_t image_length);
+
+/* Starts a module that is placed: tries all that its confinement rests on, and makes the state ready for the first step. The length of the memory that
+   is lent is the memory's length; the image may be lent as a part of it.
+   Refuses, in this order: all by which cc100_check refuses, with their places; CC100_REFUSED_STATE, of the state as it is lent, its PC included;
+   CC100_REFUSED_CODE_BYTES, where a byte of the code area is not that of the image; CC100_REFUSED_BASES, where register 26 is not the data base or
+   register 27 not the code base. The last three have no place.
+   Answers CC100_DONE, and leaves PC at the code base, next PC four more, CC100_STATUS_USER set in the status, and all else of the state as it was,
+   also the LL word and all other bits of the status. Image and memory are only read. */
+cc100_verdict cc100_start(uint32_t code_base, uint32_t code_size, uint32_t data_base, uint32_t data_size, const uint8_t *image,
+                          size_t image_length, uint8_t *state, size_t state_length, const uint8_t *memory, size_t memory_length);
 
 /* Takes one step: runs the instruction at PC.
    Refuses, in this order: CC100_REFUSED_MEMORY, CC100_REFUSED_STATE.

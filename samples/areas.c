@@ -3,7 +3,7 @@
        cc -O2 -o areas samples/areas.c -lcc100 && ./areas
 
    from the folder in which samples/ is. The modules were assembled for code at 0x10000. Each is linked to the place that it is given: its
-   direct jumps are moved. Then it is checked for that place, placed, started and run; and at the end its areas are handed back. */
+   direct jumps are moved. Then it is placed, started, which checks it for that place, and run; and at the end its areas are handed back. */
 #include <inttypes.h>
 #include <stdio.h>
 #include <stdlib.h>
@@ -73,25 +73,24 @@ static void link_module(struct module *m)
     }
 }
 
-static void check_and_place(const struct module *m)
+static void place(const struct module *m)
 {
-    cc100_verdict v = cc100_check(sizeof memory, m->code, m->code_size, m->data, DATA_SIZE, m->image, m->code_size);
-    if (v.number != CC100_DONE)
-        fail(m, "refused", v.number);
     memcpy(memory + m->code, m->image, m->code_size);
     for (uint32_t i = 0; i < DATA_SIZE / 4; i++)
         cc100_set_word(memory + m->data + 4 * i, m->table ? (uint32_t)m->table[i] : 0);
     printf("%s: %" PRIu32 " bytes of code at 0x%08" PRIx32 ", %u of data at 0x%08" PRIx32 "\n", m->path, m->code_size, m->code, DATA_SIZE, m->data);
 }
 
+/* The start checks the module for its place, and that it stands there. */
 static void start(const struct module *m, uint8_t *state)
 {
     memset(state, 0, CC100_STATE_LENGTH);
-    cc100_set_word(state + CC100_PC, m->code);
-    cc100_set_word(state + CC100_NEXT_PC, m->code + 4);
     cc100_set_word(state + CC100_REGISTER(26), m->data);
     cc100_set_word(state + CC100_REGISTER(27), m->code);
-    cc100_set_word(state + CC100_STATUS, CC100_STATUS_USER);
+    cc100_verdict v = cc100_start(m->code, m->code_size, m->data, DATA_SIZE, m->image, m->code_size, state, CC100_STATE_LENGTH, memory,
+                                  sizeof memory);
+    if (v.number != CC100_DONE)
+        fail(m, "refused", v.number);
 }
 
 /* Gives whether there is one more, and the module goes on. */
@@ -159,7 +158,7 @@ static void prepare(struct module *m)
     m->code = area(m, m->code_size);
     m->data = area(m, DATA_SIZE);
     link_module(m);
-    check_and_place(m);
+    place(m);
 }
 
 static void for_each(void (*work)(struct module *m))

@@ -38,6 +38,7 @@ installed='./bin/cc100
 ./share/man/man3/cc100_release.3
 ./share/man/man3/cc100_resume.3
 ./share/man/man3/cc100_run.3
+./share/man/man3/cc100_start.3
 ./share/man/man3/cc100_step.3
 ./share/man/man3/cc100_write.3'
 

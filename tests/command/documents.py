@@ -7,7 +7,7 @@ import re
 from program import DONE, NOT_DONE, equal, expect, run
 
 ROOT = os.path.join(os.path.dirname(os.path.abspath(__file__)), "..", "..")
-REFUSALS, EXITS = range(1, 26), range(40, 53)
+REFUSALS, EXITS = range(1, 28), range(40, 53)
 COMMANDS = ["check", "explain", "list", "run", "tables", "areas"]
 USAGE = "usage: cc100 explain [OPTION]... FILE | --number N\n'cc100 explain --help' says more\n"
 
@@ -56,10 +56,10 @@ def test_members():
 
 
 def test_numbers_that_are_none():
-    for number in (0, 26, 27, 39, 53, 54, 64, 255, 256, 257, 4294967295):
+    for number in (0, 28, 29, 39, 53, 54, 64, 255, 256, 257, 4294967295):
         for option in ("", "--json "):
             expect("explain %s--number %d" % (option, number), NOT_DONE, "",
-                   "cc100 explain: %d is no number of a refusal, 1 to 25, or of an exit, 40 to 52\n%s" % (number, USAGE))
+                   "cc100 explain: %d is no number of a refusal, 1 to 27, or of an exit, 40 to 52\n%s" % (number, USAGE))
 
 
 def test_header():
@@ -106,7 +106,7 @@ def test_readme():
     equal(["explain"], "README.md, refusals", meanings, members(REFUSALS, "meaning"))
     exits = ", ".join("%d %s" % (number, explained(number)["name"]) for number in EXITS)
     equal(["explain"], "README.md, exits", ["the step ends in an exit: " + exits], [row[2] for row in rows if row[0] == "40 to 52"])
-    equal(["explain"], "README.md, numbers", ["%d" % number for number in range(26)] + ["40 to 52"], [row[0] for row in rows])
+    equal(["explain"], "README.md, numbers", ["%d" % number for number in range(28)] + ["40 to 52"], [row[0] for row in rows])
 
 
 def test_instructions_page():

@@ -15,7 +15,7 @@ from program import DONE, REFUSED, equal, expect, run, write
 
 WIDTH = 80
 LAYOUT = ("memory_length", "code_base", "code_size", "data_base", "data_size")
-ACCEPTED = ("Started as a host has to start it, it stays in its own code and data, and its run ends only in Integer Overflow, System Call, "
+ACCEPTED = ("Placed and started by cc100_start, it stays in its own code and data, and its run ends only in Integer Overflow, System Call, "
             "Breakpoint or Trap. That is proved of every module that is accepted.")
 
 STRAIGHT = ("It is straight-through: its first exit comes after at most %d completed steps, four fewer than it has words. That is proved of every "
@@ -790,7 +790,7 @@ Checked for memory of 196608 bytes, 32 bytes of code at 0x10000,
     expect("explain samples/m.module", DONE, """\
 samples/m.module is accepted, 8 words
 
-Started as a host has to start it, it stays in its own code and data, and its
+Placed and started by cc100_start, it stays in its own code and data, and its
 run ends only in Integer Overflow, System Call, Breakpoint or Trap. That is
 proved of every module that is accepted.
 
@@ -882,7 +882,7 @@ def test_object_bytes():
 
 def test_numbers():
     """The text of every number has the sentences of its object, in lines of at most 80 columns."""
-    for number in range(1, 26):
+    for number in range(1, 28):
         said = told(number)
         expect("explain --number %d" % number, DONE, "%d is a refusal\n\n" % number + wrapped(said["meaning"])
                + "\nFor example: %s\n\n" % said["example"] + wrapped("Whom to ask: " + said["ask"]) + "\n"
@@ -914,7 +914,7 @@ or hand it back with the size that it was given with.
 Not all of the four bytes from PC on are inside memory; they do not wrap, so PC
 0xFFFFFFFC gives 50.
 """)
-    for number in (0, 26, 39, 53, 2 ** 32 - 1):
+    for number in (0, 28, 39, 53, 2 ** 32 - 1):
         expect(["explain", "--number", str(number)], 2, "",
-               "cc100 explain: %d is no number of a refusal, 1 to 25, or of an exit, 40 to 52\n"
+               "cc100 explain: %d is no number of a refusal, 1 to 27, or of an exit, 40 to 52\n"
                "usage: cc100 explain [OPTION]... FILE | --number N\n'cc100 explain --help' says more\n" % number)

@@ -323,7 +323,7 @@ def test_closed_errors():
     """What cannot be said is still in the exit status, and nothing of it is on standard output."""
     closed = {"stderr": subprocess.DEVNULL, "preexec_fn": closes(2)}
     for arguments in [filled(reader, name) for reader in READERS for name in ("missing", "samples")] + [
-            [], ["nothing"], ["check"], ["list", "--data-size", "x", "FILE"], ["explain", "--number", "26"]]:
+            [], ["nothing"], ["check"], ["list", "--data-size", "x", "FILE"], ["explain", "--number", "28"]]:
         compare(arguments, Came(NOT_DONE, b"", None), run(arguments, **closed))
     compare("check", Came(REFUSED, b"samples/m.module: accept 8\nsamples/refused.module: refuse 22 0\n", None),
             run("check samples/m.module samples/refused.module", **closed))

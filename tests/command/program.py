@@ -18,7 +18,7 @@ SHOWN_LINES = 30                   # of a long text, from where it differs
 
 Came = collections.namedtuple("Came", "status out err")
 
-programs = {}  # paths by name: cc100, verdict, emulated
+programs = {}  # paths by name: cc100, verdict, emulated, refusing
 folder = ""    # the temporary one
 count = collections.Counter()
 not_tried = []  # what this machine does not have

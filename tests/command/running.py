@@ -47,9 +47,9 @@ def data_text(words, count=DATA_SIZE // 4):
     return "data: " + "\n      ".join(" ".join(texts[i:i + 16]) for i in range(0, count, 16)) + "\n"
 
 
-def refused(name, number, place=None):
+def refused(name, number, place=None, how="is refused"):
     at = "" if place is None else " at word %d" % place
-    return "cc100: %s is refused, number %d%s: %s\n" % (name, number, at, MEANINGS[number])
+    return "cc100: %s %s, number %d%s: %s\n" % (name, how, number, at, MEANINGS[number])
 
 
 def stored(name):
@@ -76,6 +76,19 @@ def test_samples():
     expect("run samples/forgotten.module", REFUSED, "", refused("samples/forgotten.module", 12, 3))
     # with 128 bytes of data its mask of 0x7C fits, and register 8 and all data are 0
     expect("run samples/refused.module --data-size 128", DONE, placed(8, data_size=128) + after(3, 0x1000C) + NONE_LEFT + data_text([], 32))
+
+
+def test_refused_start():
+    """A module is accepted and its start refused, which this command does not come to by itself: the number is said, and nothing is run."""
+    try:
+        for number in (17, 26, 27):
+            os.environ["START"] = "%d" % number
+            said = refused("samples/m.module", number, how="cannot be started")
+            expect("run samples/m.module", REFUSED, "", said, program="refusing")
+            expect("run samples/m.module --steps --json", REFUSED, refused_object("samples/m.module", number, None), said, program="refusing")
+            expect("run samples/m.module --straight", REFUSED, "", refused("samples/m.module", 20, 6), program="refusing")
+    finally:
+        os.environ.pop("START", None)
 
 
 def test_no_module():

@@ -1,10 +1,10 @@
 #!/usr/bin/env python3
 """The tests of the command cc100.
 
-    python3 tests/command/test.py CC100 VERDICT EMULATED [SUBJECT]...
+    python3 tests/command/test.py CC100 VERDICT EMULATED REFUSING [SUBJECT]...
 
-from the top folder. CC100 is the program under test, VERDICT the verdict program and EMULATED what tests/command/emulated.c and
-tests/emulator are compiled to. Each subject is a file beside this one; every function in it that is named test_ is run, of all subjects if
+from the top folder. CC100 is the program under test, VERDICT the verdict program, EMULATED what tests/command/emulated.c and tests/emulator are
+compiled to, and REFUSING the command with tests/command/refused_start.c in place of the start. Each subject is a file beside this one; every function in it that is named test_ is run, of all subjects if
 none is named. The last line says how many checks there were and how many failed, and the exit status is 1 where any did.
 """
 import importlib
@@ -34,11 +34,11 @@ def tests_of(subject):
 
 
 def main():
-    if len(sys.argv) < 4:
-        sys.exit("usage: test.py CC100 VERDICT EMULATED [SUBJECT]...")
-    program.set_up(cc100=sys.argv[1], verdict=sys.argv[2], emulated=sys.argv[3])
+    if len(sys.argv) < 5:
+        sys.exit("usage: test.py CC100 VERDICT EMULATED REFUSING [SUBJECT]...")
+    program.set_up(cc100=sys.argv[1], verdict=sys.argv[2], emulated=sys.argv[3], refusing=sys.argv[4])
     try:
-        for name in sys.argv[4:] or SUBJECTS:
+        for name in sys.argv[5:] or SUBJECTS:
             for function in tests_of(importlib.import_module(name)):
                 run_test(function)
     finally:

@@ -61,8 +61,8 @@ guard, where the checker takes the three in this layout:
       2  0x00010008  ad090000  \\ sw      $9,0($8)
 """,
     "run": """\
-Checks a module and, where it is accepted, runs it from its first word with the
-rows in its data area. SYSCALL 0 asks for the next figure: its place goes into
+Checks a module and, where it is accepted, starts it, with the rows in its data
+area, and runs it. SYSCALL 0 asks for the next figure: its place goes into
 register 8 and the figure into register 9. SYSCALL 1 says that the report is
 complete, with the total in register 8 and the rate in register 9. With --straight
 the SYSCALL 0 of the last bundle says so too, with the total in register 8 and no
@@ -215,7 +215,7 @@ def test_abbreviated_options():
     expect(["check", "--data-s", "3", M], REFUSED, "refuse 3 -\n")
     expect(["check", "--s", M], REFUSED, "refuse 20 6\n")  # M jumps back to its first word
     expect(["run", "--st", "--stra", M], NOT_DONE, "", wrong("run", "there is no option '--st'"))  # or --steps
-    expect_wrong(["explain", "--n", "26"], "26 is no number of a refusal, 1 to 25, or of an exit, 40 to 52")
+    expect_wrong(["explain", "--n", "28"], "28 is no number of a refusal, 1 to 27, or of an exit, 40 to 52")
     expect_wrong(["run", "--b", "x", M], not_a_number("budget", "x"))
 
 
@@ -303,7 +303,7 @@ def test_largest_numbers():
     expect(["run", "--budget", "3", M], REFUSED, started + "still running, and its budget is spent; the report is not complete\n"
            "last access: store of 4 bytes at 0x20000, place 0 of the data area\n")
     for number in (2**32 - 1, 2**32 - 12):
-        expect_wrong(["explain", "--number", "%#x" % number], "%d is no number of a refusal, 1 to 25, or of an exit, 40 to 52" % number)
+        expect_wrong(["explain", "--number", "%#x" % number], "%d is no number of a refusal, 1 to 27, or of an exit, 40 to 52" % number)
 
 
 def test_last_of_an_option():

@@ -1,8 +1,8 @@
-/* A second CC100-C machine, reader, writer, checker and keeper of areas, written from documents 004 and 01 and tickets 1, 2 and 4 to 7 of document
+/* A second CC100-C machine, reader, writer, checker and keeper of areas, written from documents 004 and 01 and tickets 1, 2 and 4 to 8 of document
    02 alone. It shares nothing with the product: neither its Rattle sources nor its C header. It is meant to be read beside the documents, not to
    be fast.
 
-   The numbers that it gives are those of documents 01 and 02: 0 for done, 1 to 25 for refusals, 40 to 52 for exits. */
+   The numbers that it gives are those of documents 01 and 02: 0 for done, 1 to 27 for refusals, 40 to 52 for exits. */
 #ifndef EMULATOR_H
 #define EMULATOR_H
 
@@ -54,6 +54,10 @@ struct em_module {
 typedef uint32_t em_checker(const struct em_module *m, uint32_t *place);
 em_checker em_check, em_check_straight;
 void em_print_verdict(em_checker *checker, const struct em_module *m); /* as the verdict program's line */
+
+/* The start of a module that is placed in memory of its memory length: 0, or the refusal, and then the state is left as it was. The place is
+   EM_NO_PLACE, or that of the checker. */
+uint32_t em_start(const struct em_module *m, uint8_t *state, size_t state_length, const uint8_t *memory, uint32_t *place);
 
 /* Every rule of 1 to 16, 22 and 25 that the module breaks anywhere, whatever comes before it: bit n is set where rule n is broken. Words are
    those that lie whole in the image. The second has 20 and 21 too. */

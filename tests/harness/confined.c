@@ -1,5 +1,6 @@
-/* Accepted modules are confined, whatever list of calls they get: the product beside the emulator, and a twin whose memory differs outside
-   code and data. What each step tries is looked at before the emulator takes it, and the access that an answer carries after it. */
+/* Accepted modules are confined, whatever list of calls they get after a start: the product beside the emulator, and a twin whose memory differs
+   outside code and data. The emulator's module is started by hand, as demand 3 says, and the other two by the call. What each step tries is looked at
+   before the emulator takes it, and the access that an answer carries after it. */
 #include <string.h>
 
 #include "harness.h"
@@ -258,6 +259,8 @@ static void start(uint32_t most_memory)
     copy_machine(&product, &emulator);
     copy_lent(&began, &emulator.memory);
     start_twin();
+    start_by_call(&m, &product, &emulator);
+    start_by_call(&m, &twin, &emulator);
 }
 
 static void try_module(int large)

@@ -1,6 +1,6 @@
 /* Document 01's own answers, written down from it by hand: its marked cases C1 to C12, C10 and C11 as ticket 5 of document 02 has them, and every
-   example of its refusal table; and the accesses, the straight-through modules, the divisions, the guards and the masks of tickets 1, 2, 4, 5
-   and 7. The emulator is tried on them, as all else here trusts it, and the product and plain C beside it. */
+   example of its refusal table; and the accesses, the straight-through modules, the divisions, the guards, the masks and, in starts_by_hand.c, the
+   starts of tickets 1, 2, 4, 5, 7 and 8. The emulator is tried on them, as all else here trusts it, and the product and plain C beside it. */
 #include <string.h>
 
 #include "harness.h"
@@ -407,7 +407,8 @@ void test_documents(void)
     for (size_t i = 0; i < COUNT(jump_cases); i++)
         try_module(&usual, &jump_cases[i]);
     other_refusals();
-    end_part("%zu steps and %zu modules with document 01's answers, %zu accesses, %zu divisions, %zu straight-through modules, %zu guards and %zu "
-             "masks with document 02's", COUNT(step_cases) + 2, COUNT(module_cases), COUNT(access_cases), COUNT(division_cases),
-             COUNT(straight_cases), COUNT(guard_cases), COUNT(hole_cases) + COUNT(jump_cases));
+    size_t starts = try_starts_by_hand();
+    end_part("%zu steps and %zu modules with document 01's answers, %zu accesses, %zu divisions, %zu straight-through modules, %zu guards, %zu "
+             "masks and %zu starts with document 02's", COUNT(step_cases) + 2, COUNT(module_cases), COUNT(access_cases), COUNT(division_cases),
+             COUNT(straight_cases), COUNT(guard_cases), COUNT(hole_cases) + COUNT(jump_cases), starts);
 }

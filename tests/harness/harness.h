@@ -140,9 +140,21 @@ extern const struct profile usual, straight;
 
 void write_image(const struct module *m, uint8_t *to);
 
-/* The module placed in random memory of its length, and started as demand 3 says: user mode at the first word, the bases in 26 and 27, and all
+/* The module placed in random memory of its length, and started by hand as demand 3 says: user mode at the first word, the bases in 26 and 27, and all
    else random. */
 void start_module(struct machine *x, const struct module *m);
+
+/* The emulator, plain C and the call, with the call's arguments. */
+#define STARTERS 3
+struct starter {
+    const char *name;
+    plain_starter *start;
+};
+extern const struct starter starters[STARTERS];
+
+/* A machine that is as the other, in which the module is started, is started by the call, often from another PC, next PC and mode: it is then as the
+   other again. */
+void start_by_call(const struct module *of, struct machine *x, const struct machine *by_hand);
 
 /* A way to break one rule: it changes an accepted module, and gives whether it could. A slow one is tried a few times only. */
 struct way {
@@ -177,6 +189,10 @@ void test_rules(void);
 void test_documents(void);
 void test_straight(void);
 void test_areas(void);
+void test_starts(void);
+
+/* Ticket 8's answers by hand, a piece of test_documents. Gives how many there are. */
+size_t try_starts_by_hand(void);
 
 /* And those of changed.c and rules.c for straight-through modules. */
 void test_changed_straight(void);

@@ -150,6 +150,7 @@ int main(int count, char **arguments)
     test_rules_straight();
     test_straight();
     test_areas();
+    test_starts();
     printf("harness: %" PRIu64 " comparisons, %" PRIu64 " differences\n", comparisons, differences);
     return differences != 0;
 }

@@ -139,6 +139,7 @@ static void try_module(void)
     same_number("number of the same module without the profile", CC100_DONE, compare_check(&m));
     start_module(&emulator, &m);
     copy_machine(&product, &emulator);
+    start_by_call(&m, &product, &emulator);
     counts.sizes[size_index()]++;
     uint32_t choice = below(3);
     if (choice == 0)

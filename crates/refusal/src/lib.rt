@@ -28,6 +28,8 @@ pub enum Refusal {
     NoSpace = 23,
     Record = 24,
     MaskHole = 25,
+    CodeBytes = 26,
+    BaseRegister = 27,
 }
 
 // What a rule that is broken, or a test that holds, ends in: a refusal, or an exit of the machine.

@@ -14,7 +14,7 @@ use refusal::Ending;
 const RESERVED: u32 = 15;
 
 #[tactic(auto, unfolding(crate::specs::System::is_user))]
-fn is_user(status: u32) -> bool
+pub fn is_user(status: u32) -> bool
     ensures { result ≡ Spec.is_user status }
 {
     (status >> 3) & 1 == 1

@@ -1,0 +1,26 @@
+-- Every list that the start call begins has demand 3, with no promise of the operator's: for the methods of State, and for the calls exported to C.
+use Prim.Native.Nat.{ℕ}
+use mathlib.Core.Path.{◌≡◌}
+use mathlib.Core.List.{List}
+use lib.ListN.{length}
+use Rattle.layout.specs.declared.Layout.{Layout}
+use Rattle.start.specs.Start.{start_of, start_call}
+use Rattle.confinement.specs.Calls.{Lent, Calls, methods, exported}
+use Rattle.confinement.specs.Demand.{Start, Demand3}
+use Rattle.confinement.proofs.Whole.{demand_3_methods, demand_3_exported}
+use Rattle.begun.specs.Begun.{Starts, left_by, Begins, BegunSecured, BegunStarts}
+use Rattle.begun.proofs.Ready.{starts_methods, starts_exported}
+
+module _ {S : Type 0} (c : Calls S) (start : Starts S) where
+  -- from demand 3 and what the call promises
+  secured_from : Demand3 c → BegunStarts c start → BegunSecured c start
+  secured_from d starts l img w b es =
+      let (a, s) = starts l img w b in
+      let r = d l (length w.memory) img a (left_by c start l img w) s es in
+      (r.0, λ v bv e k. r.1 (left_by c start l img v) (rw e at (starts l img v bv).1) k)
+
+pub begun_secured_methods : BegunSecured methods start_of
+begun_secured_methods = secured_from methods start_of demand_3_methods starts_methods
+
+pub begun_secured_exported : BegunSecured exported start_call
+begun_secured_exported = secured_from exported start_call demand_3_exported starts_exported

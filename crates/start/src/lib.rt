@@ -1,0 +1,79 @@
+// The start of a module (document 02, Ticket 8): checked, found where its layout says, and its state made ready.
+#![tactic(auto)]
+
+ghost use Rattle.std.specs.Prelude.{◌≡◌, ◌+◌, ◌^◌, ◌<◌, ◌≤◌, IfOk, length};
+ghost use Rattle.checker.specs.Said.{verdict_of};
+ghost use Rattle.refusal.specs.Refusal.{refused_number};
+ghost use Rattle.start.specs.Start as Spec;
+
+use checker::check::Candidate;
+use checker::verdict::Refused;
+use effect::effect::Special;
+use isa::register;
+use layout::Layout;
+use machine::state::State;
+use refusal::{Ending, Refusal};
+
+// In user mode: bit 3 set, and no other bit changed.
+#[tactic(auto, unfolding(crate::specs::Start::user_of))]
+fn user(status: u32) -> u32
+    requires { status < 2 ^ 13 }
+    ensures { result ≡ Spec.user_of status }
+{
+    if system::is_user(status) {
+        status
+    } else {
+        status + 8
+    }
+}
+
+// What is asked of a state and memory after the checker, and the state that is made ready.
+#[tactic(auto, unfolding(crate::specs::Start::state_refusal, crate::specs::Start::placing_refusal))]
+fn begun(layout: Layout, image: &[u8], s: State, memory: &[u8]) -> Result<State, Refusal>
+    requires { (layout.code_base + layout.code_size ≤ length memory.now) × (16 ≤ layout.code_size) }
+    ensures number { refused_number result ≡ Spec.state_refusal layout image.now s memory.now }
+    ensures state { IfOk result (λ t. t ≡ Spec.started_of layout s) }
+{
+    s.refusal(memory.len())?;
+    let from = layout.code_base as usize;
+    let to = from + layout.code_size as usize;
+    Refusal::CodeBytes.when(&memory[from..to] != image)?;
+    let data_base = s.registers[register::DATA_BASE as usize];
+    let code_base = s.registers[register::CODE_BASE as usize];
+    Refusal::BaseRegister.when(data_base != layout.data_base || code_base != layout.code_base)?;
+    Ok(State {
+        special: Special {
+            pc: layout.code_base,
+            next_pc: layout.code_base + 4,
+            status: user(s.special.status),
+            ..s.special
+        },
+        ..s
+    })
+}
+
+// Of a state, or of what is refused in its place: its refusal comes after the checker's.
+#[tactic(auto, using(crate::proofs::Order::check_refused, crate::proofs::Order::given_refused, crate::proofs::Order::given_done, crate::proofs::Order::code_inside))]
+pub fn start_by(
+    layout: Layout,
+    image: &[u8],
+    given: Result<State, Refusal>,
+    memory: &[u8],
+) -> Result<State, Refused>
+    ensures verdict { verdict_of result ≡ Spec.verdict_by layout image.now given memory.now }
+    ensures state { IfOk result (Spec.StartedFrom layout given) }
+{
+    let candidate = Candidate {
+        layout,
+        memory_length: memory.len() as u64,
+        image,
+    };
+    candidate.check()?;
+    Ok(begun(layout, image, given?, memory)?)
+}
+
+pub fn start(layout: Layout, image: &[u8], s: State, memory: &[u8]) -> Result<State, Refused>
+    ensures { Spec.says s result ≡ Spec.start_of layout image.now s memory.now }
+{
+    start_by(layout, image, Ok(s), memory)
+}
