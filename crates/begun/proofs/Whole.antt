@@ -1,14 +1,10 @@
 -- Every list that the start call begins has demand 3, with no promise of the operator's: for the methods of State, and for the calls exported to C.
-use Prim.Native.Nat.{ℕ}
-use mathlib.Core.Path.{◌≡◌}
-use mathlib.Core.List.{List}
 use lib.ListN.{length}
-use Rattle.layout.specs.declared.Layout.{Layout}
 use Rattle.start.specs.Start.{start_of, start_call}
-use Rattle.confinement.specs.Calls.{Lent, Calls, methods, exported}
-use Rattle.confinement.specs.Demand.{Start, Demand3}
+use Rattle.confinement.specs.Calls.{Calls, methods, exported}
+use Rattle.confinement.specs.Demand.{Demand3}
 use Rattle.confinement.proofs.Whole.{demand_3_methods, demand_3_exported}
-use Rattle.begun.specs.Begun.{Starts, left_by, Begins, BegunSecured, BegunStarts}
+use Rattle.begun.specs.Begun.{Starts, left_by, BegunSecured, BegunStarts}
 use Rattle.begun.proofs.Ready.{starts_methods, starts_exported}
 
 module _ {S : Type 0} (c : Calls S) (start : Starts S) where

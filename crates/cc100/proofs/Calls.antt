@@ -67,7 +67,7 @@ abbrev Leaving : State → List ℕ → Outcome → Type 0
 Leaving s m o = (o.number ≡ 0 → ⊥) → o.machine ≡ record { state = s; memory = m }
 
 -- what encode answers and leaves of a state's bytes
-encode_bytes : (s : State) (b x : List ℕ) (k : ℕ) → is_state b ≡ true → encoded k x ≡ encoded_of s b → (k ≡ 0) × (x ≡ bytes_of s)
+pub encode_bytes : (s : State) (b x : List ℕ) (k : ℕ) → is_state b ≡ true → encoded k x ≡ encoded_of s b → (k ≡ 0) × (x ≡ bytes_of s)
 unfolding encoded_of
 encode_bytes s b x k e h =
     let l : length b ≡ 164 = state_length b e in

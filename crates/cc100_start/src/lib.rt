@@ -2,6 +2,7 @@
 #![tactic(auto)]
 
 ghost use Rattle.std.specs.Prelude.{◌≡◌};
+ghost use Rattle.start.specs.Start.{start_call};
 ghost use Rattle.cc100_start.specs.Call as Spec;
 
 use checker::verdict::{Refused, Verdict};
@@ -9,7 +10,7 @@ use layout::Layout;
 
 // What is refused of the state as bytes comes after the checker's refusals too.
 fn started(layout: Layout, image: &[u8], state: &mut [u8], memory: &[u8]) -> Result<(), Refused>
-    ensures { Spec.says result state.new ≡ Spec.start_call layout image.now state.old memory.now }
+    ensures { Spec.says result state.new ≡ start_call layout image.now state.old memory.now }
 {
     let s = start::start_by(layout, image, cc100::decode(state, memory.len()), memory)?;
     codec::encode::encode(s, state)?;

@@ -1,2 +1,3 @@
 pub mod Order
 pub mod Starts
+pub mod Told

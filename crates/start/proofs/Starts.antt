@@ -1,7 +1,7 @@
 -- What the answers of a start say: when it is done, what is asked then, and what the state that is handed back keeps.
-use Prim.Native.Nat.{ℕ, ◌+◌, ◌/◌, ◌%◌, ◌^◌, ◌≤◌, ◌<◌}
-use mathlib.Core.Path.{◌≡◌, refl, sym, ap, ◌∙◌}
-use mathlib.Core.Bool.{Bool, true, false, cond, not, ◌&&◌, false≢true}
+use Prim.Native.Nat.{ℕ, ◌+◌, ◌/◌, ◌%◌, ◌^◌, ◌<◌}
+use mathlib.Core.Path.{◌≡◌, refl}
+use mathlib.Core.Bool.{Bool, true, false, cond, not}
 use mathlib.Core.List.{List}
 use native.Mathlib.Omega.{arith}
 use lib.Dec.{eqb}
@@ -13,12 +13,12 @@ use Rattle.word.proofs.Choice.{both}
 use Rattle.layout.specs.declared.Layout.{Layout}
 use Rattle.system.specs.System.{is_user}
 use Rattle.machine.specs.declared.state.State.{State}
-use Rattle.machine.specs.State.{register_of, refusal_of}
+use Rattle.machine.specs.State.{register_of}
 use Rattle.rules.specs.Not.{Not}
-use Rattle.checker.specs.declared.verdict.Verdict.{Verdict}
 use Rattle.checker.specs.Check.{verdict, no_place, accepted, check_of, code_of}
 use Rattle.checker.proofs.Whole.{number_accepted}
-use Rattle.start.specs.Start.{user_of, started_of, placing_refusal, state_refusal, after_check, start_of}
+use Rattle.start.specs.Told.{Based}
+use Rattle.start.specs.Start.{is_based, user_of, placing_refusal, state_refusal, after_check}
 
 -- ---- the status
 
@@ -53,6 +53,27 @@ module _ (n : ℕ) where
 
 -- ---- when it is done
 
+module _ (l : Layout) (s : State) where
+  pub based_is : Based l s → is_based l s ≡ true
+  unfolding is_based
+  based_is b = rw (eq-eqb _ _ b.0, eq-eqb _ _ b.1) refl
+
+  is_then_based : is_based l s ≡ true → Based l s
+  unfolding is_based
+  is_then_based e =
+      let b = both (eqb (register_of s.registers 26) l.data_base) _ e in
+      (eqb-true _ _ b.0, eqb-true _ _ b.1)
+
+module _ (l : Layout) (img : List ℕ) (s : State) (m : List ℕ) where
+  -- 0 after the state
+  pub state_zero : (own : ℕ) → state_refusal own l img s m ≡ 0 → (own ≡ 0) × (placing_refusal l img s m ≡ 0)
+  unfolding state_refusal
+  state_zero own e = go (eqb own 0) refl e
+    where
+      go : (t : Bool) → eqb own 0 ≡ t → cond t (placing_refusal l img s m) own ≡ 0 → (own ≡ 0) × (placing_refusal l img s m ≡ 0)
+      go true q h = (eqb-true own 0 q, h)
+      go false q h = absurd (eqb-false own 0 q h)
+
 module _ (l : Layout) (img m : List ℕ) where
   -- 0 after the checker
   pub after_zero : (k : ℕ) → (after_check l img m k).number ≡ 0 → (check_of l (length m) img ≡ accepted) × (k ≡ 0)
@@ -69,19 +90,15 @@ module _ (l : Layout) (img m : List ℕ) where
   -- image and registers are as a start needs them
   pub record Placing (s : State) : Type 0 where
     pub code : code_of l m ≡ img
-    pub data_base : register_of s.registers 26 ≡ l.data_base
-    pub code_base : register_of s.registers 27 ≡ l.code_base
+    pub based : Based l s
 
   pub placing_zero : (s : State) → placing_refusal l img s m ≡ 0 → Placing s
   unfolding placing_refusal
-  placing_zero s e = go (bytes_eq (code_of l m) img) refl (eqb (register_of s.registers 26) l.data_base && eqb (register_of s.registers 27) l.code_base) refl e
+  placing_zero s e = go (bytes_eq (code_of l m) img) refl (is_based l s) refl e
     where
-      go : (t : Bool) → bytes_eq (code_of l m) img ≡ t
-          → (u : Bool) → eqb (register_of s.registers 26) l.data_base && eqb (register_of s.registers 27) l.code_base ≡ u
-          → cond {A = ℕ} (not t) 26 (cond (not u) 27 0) ≡ 0 → Placing s
+      go : (t : Bool) → bytes_eq (code_of l m) img ≡ t → (u : Bool) → is_based l s ≡ u → cond {A = ℕ} (not t) 26 (cond (not u) 27 0) ≡ 0 → Placing s
       go true p true q e =
-          let b = both (eqb (register_of s.registers 26) l.data_base) _ q in
-          record { code = (bytes_eq-Decides (code_of l m) img).0 p; data_base = eqb-true _ _ b.0; code_base = eqb-true _ _ b.1 }
+          record { code = (bytes_eq-Decides (code_of l m) img).0 p; based = is_then_based l s q }
       go true p false q e = absurd (omega (arith, e))
       go false p u q e = absurd (omega (arith, e))
 
@@ -89,4 +106,4 @@ module _ (l : Layout) (img m : List ℕ) where
   unfolding placing_refusal
   placing_ready s p =
       let a : bytes_eq (code_of l m) img ≡ true = (bytes_eq-Decides (code_of l m) img).1 p.code in
-      rw (a, eq-eqb _ _ p.data_base, eq-eqb _ _ p.code_base) refl
+      rw (a, based_is l s p.based) refl

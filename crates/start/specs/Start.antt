@@ -1,7 +1,6 @@
 -- The start call (document 02, Ticket 8): what it answers, and the state that it hands back.
 use Rattle.std.specs.Prelude.{ℕ, ◌+◌, ◌^◌, ◌≡◌, Bool, cond, not, ◌&&◌, List, eqb, length, Result, Ok, Err}
 use Rattle.std.specs.Str.{bytes_eq}
-use Rattle.effect.specs.declared.effect.Special.{Special}
 use Rattle.refusal.specs.declared.Refusal.{Refusal}
 use Rattle.refusal.specs.Refusal.{number_of}
 use Rattle.layout.specs.declared.Layout.{Layout}
@@ -39,20 +38,22 @@ started_of l s =
 
 -- ---- what is refused after the checker
 
+-- registers 26 and 27 hold their areas' bases
+unfoldable pub is_based : Layout → State → Bool
+is_based l s =
+    eqb (register_of s.registers 26) l.data_base && eqb (register_of s.registers 27) l.code_base
+
 -- 26 where a code byte differs from the image, then 27 where register 26 or 27 holds another value than its area's base, else 0
 unfoldable pub placing_refusal : Layout → List ℕ → State → List ℕ → ℕ
-placing_refusal l img s m =
-    cond (not (bytes_eq (code_of l m) img)) 26
-    (cond (not (eqb (register_of s.registers 26) l.data_base && eqb (register_of s.registers 27) l.code_base)) 27 0)
+placing_refusal l img s m = cond (not (bytes_eq (code_of l m) img)) 26 (cond (not (is_based l s)) 27 0)
 
 -- the state's own refusal, 17, comes before these; 1 was the checker's
-unfoldable pub state_refusal : Layout → List ℕ → State → List ℕ → ℕ
-state_refusal l img s m =
-    cond (eqb (refusal_of s (length m)) 0) (placing_refusal l img s m) (refusal_of s (length m))
+unfoldable pub state_refusal : ℕ → Layout → List ℕ → State → List ℕ → ℕ
+state_refusal own l img s m = cond (eqb own 0) (placing_refusal l img s m) own
 
 -- of what is given: a state, or a refusal in its place
 abbrev pub given_refusal : Layout → List ℕ → Result State Refusal → List ℕ → ℕ
-given_refusal l img (Ok s) m = state_refusal l img s m
+given_refusal l img (Ok s) m = state_refusal (refusal_of s (length m)) l img s m
 given_refusal l img (Err e) m = number_of e
 
 -- ---- the answers
@@ -80,7 +81,7 @@ answer v old new = record { verdict = v; state = cond (eqb v.number 0) new old }
 
 -- of a state by value
 unfoldable pub start_of : Layout → List ℕ → State → List ℕ → Answer State
-start_of l img s m = answer (after_check l img m (state_refusal l img s m)) s (started_of l s)
+start_of l img s m = answer (after_check l img m (state_refusal (refusal_of s (length m)) l img s m)) s (started_of l s)
 
 abbrev pub says : State → Result State Refused → Answer State
 says s (Ok t) = record { verdict = verdict_of {A = State} (Ok t); state = t }
@@ -90,6 +91,6 @@ says s (Err r) = record { verdict = verdict_of {A = State} (Err r); state = s }
 unfoldable pub start_call : Layout → List ℕ → List ℕ → List ℕ → Answer (List ℕ)
 start_call l img b m =
     answer
-    (after_check l img m (cond (eqb (call_refusal b (length m)) 0) (placing_refusal l img (state_of b) m) (call_refusal b (length m))))
+    (after_check l img m (state_refusal (call_refusal b (length m)) l img (state_of b) m))
     b
     (bytes_of (started_of l (state_of b)))

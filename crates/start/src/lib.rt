@@ -4,6 +4,7 @@
 ghost use Rattle.std.specs.Prelude.{◌≡◌, ◌+◌, ◌^◌, ◌<◌, ◌≤◌, IfOk, length};
 ghost use Rattle.checker.specs.Said.{verdict_of};
 ghost use Rattle.refusal.specs.Refusal.{refused_number};
+ghost use Rattle.machine.specs.State.{refusal_of};
 ghost use Rattle.start.specs.Start as Spec;
 
 use checker::check::Candidate;
@@ -27,21 +28,12 @@ fn user(status: u32) -> u32
     }
 }
 
-// What is asked of a state and memory after the checker, and the state that is made ready.
-#[tactic(auto, unfolding(crate::specs::Start::state_refusal, crate::specs::Start::placing_refusal))]
-fn begun(layout: Layout, image: &[u8], s: State, memory: &[u8]) -> Result<State, Refusal>
-    requires { (layout.code_base + layout.code_size ≤ length memory.now) × (16 ≤ layout.code_size) }
-    ensures number { refused_number result ≡ Spec.state_refusal layout image.now s memory.now }
-    ensures state { IfOk result (λ t. t ≡ Spec.started_of layout s) }
+// At the first two words and in user mode, and all else as given.
+fn ready(layout: Layout, s: State) -> State
+    requires { (layout.code_base + 4 < 2 ^ 32) × (s.special.status < 2 ^ 13) }
+    ensures { result ≡ Spec.started_of layout s }
 {
-    s.refusal(memory.len())?;
-    let from = layout.code_base as usize;
-    let to = from + layout.code_size as usize;
-    Refusal::CodeBytes.when(&memory[from..to] != image)?;
-    let data_base = s.registers[register::DATA_BASE as usize];
-    let code_base = s.registers[register::CODE_BASE as usize];
-    Refusal::BaseRegister.when(data_base != layout.data_base || code_base != layout.code_base)?;
-    Ok(State {
+    State {
         special: Special {
             pc: layout.code_base,
             next_pc: layout.code_base + 4,
@@ -49,7 +41,39 @@ fn begun(layout: Layout, image: &[u8], s: State, memory: &[u8]) -> Result<State,
             ..s.special
         },
         ..s
-    })
+    }
+}
+
+#[tactic(auto, unfolding(crate::specs::Start::is_based))]
+fn is_based(layout: Layout, s: State) -> bool
+    ensures { result ≡ Spec.is_based layout s }
+{
+    s.registers[register::DATA_BASE as usize] == layout.data_base
+        && s.registers[register::CODE_BASE as usize] == layout.code_base
+}
+
+// The code area is compared with the image in one pass.
+#[tactic(auto, using(crate::proofs::Order::code_is), unfolding(crate::specs::Start::placing_refusal))]
+fn placing(layout: Layout, image: &[u8], s: State, memory: &[u8]) -> Result<(), Refusal>
+    requires { layout.code_base + layout.code_size ≤ length memory.now }
+    ensures { refused_number result ≡ Spec.placing_refusal layout image.now s memory.now }
+{
+    let from = layout.code_base as usize;
+    let to = from + layout.code_size as usize;
+    Refusal::CodeBytes.when(&memory[from..to] != image)?;
+    Refusal::BaseRegister.when(!is_based(layout, s))
+}
+
+// What is asked of a state and memory after the checker, and the state that is made ready.
+#[tactic(auto, using(crate::proofs::Order::own_refused, crate::proofs::Order::placing_next, crate::proofs::Order::status_fits))]
+fn begun(layout: Layout, image: &[u8], s: State, memory: &[u8]) -> Result<State, Refusal>
+    requires { (layout.code_base + layout.code_size ≤ length memory.now) × (layout.code_base + 4 < 2 ^ 32) }
+    ensures number { refused_number result ≡ Spec.state_refusal (refusal_of s (length memory.now)) layout image.now s memory.now }
+    ensures state { IfOk result (λ t. t ≡ Spec.started_of layout s) }
+{
+    s.refusal(memory.len())?;
+    placing(layout, image, s, memory)?;
+    Ok(ready(layout, s))
 }
 
 // Of a state, or of what is refused in its place: its refusal comes after the checker's.
@@ -72,6 +96,7 @@ pub fn start_by(
     Ok(begun(layout, image, given?, memory)?)
 }
 
+#[tactic(auto, using(crate::proofs::Order::start_says))]
 pub fn start(layout: Layout, image: &[u8], s: State, memory: &[u8]) -> Result<State, Refused>
     ensures { Spec.says s result ≡ Spec.start_of layout image.now s memory.now }
 {
