@@ -3,10 +3,12 @@ use Rattle.std.specs.Prelude.{ℕ, ◌≡◌, List, length}
 use Rattle.layout.specs.declared.Layout.{Layout}
 use Rattle.machine.specs.State.{Bytes}
 use Rattle.checker.specs.Check.{accepted, check_of}
+use Rattle.straight.specs.Check.{straight_of}
 use Rattle.start.specs.Start.{Answer}
 use Rattle.confinement.specs.Events.{Event}
 use Rattle.confinement.specs.Calls.{Lent, lent, Calls}
 use Rattle.confinement.specs.Demand.{Start, Confinement, Alike, Same}
+use Rattle.termination.specs.Ends.{Ends}
 
 -- the start call of one level: of a layout, an image, a state and a memory
 abbrev pub Starts : Type 0 → Type 0
@@ -42,3 +44,9 @@ module _ {S : Type 0} (c : Calls S) (start : Starts S) where
   StartsGivenBack =
       (l : Layout) (len : ℕ) (img : List ℕ) → check_of l len img ≡ accepted → (w : Lent S) → Start c l len img w
       → start l img w.state w.memory ≡ record { verdict = accepted; state = w.state }
+
+  -- and a module that the straight-through profile accepts is known to finish (document 02, Ticket 2)
+  abbrev pub BegunEnds : Type 0
+  BegunEnds =
+      (l : Layout) (img : List ℕ) (w : Lent S) → Begins l img w → straight_of l (length w.memory) img ≡ accepted
+      → Ends c l (left_by l img w)
