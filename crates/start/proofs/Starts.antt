@@ -58,7 +58,7 @@ module _ (l : Layout) (s : State) where
   unfolding is_based
   based_is b = rw (eq-eqb _ _ b.0, eq-eqb _ _ b.1) refl
 
-  is_then_based : is_based l s ≡ true → Based l s
+  pub is_then_based : is_based l s ≡ true → Based l s
   unfolding is_based
   is_then_based e =
       let b = both (eqb (register_of s.registers 26) l.data_base) _ e in

@@ -22,12 +22,13 @@ use Rattle.checker.specs.Check.{verdict, no_place, accepted, check_of, code_of}
 use Rattle.checker.proofs.Verdicts.{verdict_told}
 use Rattle.checker.proofs.Whole.{accepted_lawful, number_accepted}
 use Rattle.start.specs.Start.{is_based, placing_refusal, state_refusal, after_check, start_of, start_call}
-use Rattle.start.proofs.Starts.{based_is}
+use Rattle.start.proofs.Starts.{based_is, is_then_based}
 use Rattle.start.specs.Told.{Based, Told}
 
 module _ (l : Layout) (img : List ℕ) (s : State) (m : List ℕ) where
   -- by what is tried after the state
-  by_placing : (P : ℕ → Type 0) → (Not (code_of l m ≡ img) → P 26) → (code_of l m ≡ img → Not (Based l s) → P 27) → P 0 → P (placing_refusal l img s m)
+  by_placing : (P : ℕ → Type 0) → (Not (code_of l m ≡ img) → P 26) → (code_of l m ≡ img → Not (Based l s) → P 27) → (code_of l m ≡ img → Based l s → P 0)
+      → P (placing_refusal l img s m)
   unfolding placing_refusal
   by_placing P f g z = go (bytes_eq (code_of l m) img) refl (is_based l s) refl
     where
@@ -35,7 +36,7 @@ module _ (l : Layout) (img : List ℕ) (s : State) (m : List ℕ) where
       decides = bytes_eq-Decides (code_of l m) img
 
       go : (t : Bool) → bytes_eq (code_of l m) img ≡ t → (u : Bool) → is_based l s ≡ u → P (cond (not t) 26 (cond (not u) 27 0))
-      go true p true q = z
+      go true p true q = z (decides.0 p) (is_then_based l s q)
       go true p false q = g (decides.0 p) (λ b. absurd (true≢false (sym (based_is l s b) ∙ q)))
       go false p u q = f (λ e. absurd (true≢false (sym (decides.1 e) ∙ p)))
 
@@ -55,64 +56,55 @@ module _ (l : Layout) (img : List ℕ) (s : State) (m : List ℕ) where
         (λ e. let a = number_accepted l (length m) img e in by_zero (λ k. P (verdict k no_place)) own (h a) (g a))
         (λ n. f (λ a. n (ap (λ v. v.number) a)))
 
-    told : (checked ≡ accepted → (own ≡ 0) ⊎ (own ≡ 17)) → Told own l img s m (after_check l img m (state_refusal own l img s m))
-    told o = by_answer (Told own l img s m) refused by_state placed
-      where
-        refused : Not (checked ≡ accepted) → Told own l img s m checked
-        refused n =
-            let t = verdict_told l (length m) img in
-            record {
-              checker = λ _. refl;
-              number_is = λ a. absurd (n a);
-              no_word = λ a. absurd (n a);
-              state = λ e. absurd (omega (arith, e, t.number_is));
-              code = λ e. absurd (omega (arith, e, t.number_is));
-              bases = λ e. absurd (omega (arith, e, t.number_is));
-            }
+    abbrev Tells : Verdict → Type 0
+    Tells v = Told own l img s m v
 
-        by_state : checked ≡ accepted → Not (own ≡ 0) → Told own l img s m (verdict own no_place)
-        by_state a n =
-            let e : own ≡ 17 = ⊎_elim (λ z. absurd (n z)) (λ z. z) (o a) in
-            record {
-              checker = λ c. absurd (c a);
-              number_is = λ _. inr (inl e);
-              no_word = λ _. refl;
-              state = λ _. (a, e);
-              code = λ z. absurd (omega (arith, e, z));
-              bases = λ z. absurd (omega (arith, e, z));
-            }
+    refused : Not (checked ≡ accepted) → Tells checked
+    refused n =
+        let t = verdict_told l (length m) img in
+        record {
+          checker = λ _. refl;
+          number_is = λ a. absurd (n a);
+          no_word = λ a. absurd (n a);
+          state = λ e. absurd (omega (arith, e, t.number_is));
+          code = λ e. absurd (omega (arith, e, t.number_is));
+          bases = λ e. absurd (omega (arith, e, t.number_is));
+          done = λ e. absurd (n (number_accepted l (length m) img e));
+        }
 
-        placed : checked ≡ accepted → own ≡ 0 → Told own l img s m (verdict (placing_refusal l img s m) no_place)
-        placed a z =
-            by_placing (λ k. Told own l img s m (verdict k no_place))
-            (λ n.
-            record {
-              checker = λ c. absurd (c a);
-              number_is = λ _. inr (inr (inl refl));
-              no_word = λ _. refl;
-              state = λ e. absurd (omega (arith, e));
-              code = λ _. (a, (z, n));
-              bases = λ e. absurd (omega (arith, e));
-            })
-            (λ p n.
-            record {
-              checker = λ c. absurd (c a);
-              number_is = λ _. inr (inr (inr refl));
-              no_word = λ _. refl;
-              state = λ e. absurd (omega (arith, e));
-              code = λ e. absurd (omega (arith, e));
-              bases = λ _. (a, (z, (p, n)));
-            })
-            (
-            record {
-              checker = λ c. absurd (c a);
-              number_is = λ _. inl refl;
-              no_word = λ _. refl;
-              state = λ e. absurd (omega (arith, e));
-              code = λ e. absurd (omega (arith, e));
-              bases = λ e. absurd (omega (arith, e));
-            }
-            )
+    module _ (a : checked ≡ accepted) where
+      -- of number k, one of the four, from what each tells
+      after : (k : ℕ) → (k ≡ 0) ⊎ ((k ≡ 17) ⊎ ((k ≡ 26) ⊎ (k ≡ 27)))
+          → (k ≡ 17 → own ≡ 17)
+          → (k ≡ 26 → (own ≡ 0) × Not (code_of l m ≡ img))
+          → (k ≡ 27 → (own ≡ 0) × ((code_of l m ≡ img) × Not (Based l s)))
+          → (k ≡ 0 → (own ≡ 0) × ((code_of l m ≡ img) × Based l s))
+          → Tells (verdict k no_place)
+      after k n f g h d =
+          record {
+            checker = λ c. absurd (c a);
+            number_is = λ _. n;
+            no_word = λ _. refl;
+            state = λ e. (a, f e);
+            code = λ e. (a, g e);
+            bases = λ e. (a, h e);
+            done = λ e. (a, d e);
+          }
+
+      by_state : Not (own ≡ 0) → own ≡ 17 → Tells (verdict own no_place)
+      by_state n e =
+          after own (inr (inl e)) (λ _. e) (λ z. absurd (omega (arith, e, z))) (λ z. absurd (omega (arith, e, z))) (λ z. absurd (n z))
+
+      placed : own ≡ 0 → Tells (verdict (placing_refusal l img s m) no_place)
+      placed z =
+          by_placing (λ k. Tells (verdict k no_place))
+          (λ n. after 26 (inr (inr (inl refl))) (λ e. absurd (omega (arith, e))) (λ _. (z, n)) (λ e. absurd (omega (arith, e))) (λ e. absurd (omega (arith, e))))
+          (λ p n. after 27 (inr (inr (inr refl))) (λ e. absurd (omega (arith, e))) (λ e. absurd (omega (arith, e))) (λ _. (z, (p, n))) (λ e. absurd (omega (arith, e))))
+          (λ p b. after 0 (inl refl) (λ e. absurd (omega (arith, e))) (λ e. absurd (omega (arith, e))) (λ e. absurd (omega (arith, e))) (λ _. (z, (p, b))))
+
+    told : (checked ≡ accepted → (own ≡ 0) ⊎ (own ≡ 17)) → Tells (after_check l img m (state_refusal own l img s m))
+    told o =
+        by_answer Tells refused (λ a n. by_state a n (⊎_elim (λ z. absurd (n z)) (λ e. e) (o a))) (λ a z. placed a z)
 
 -- 1 was the checker's
 pub own_numbers : (s : State) (n : ℕ) → n ≤ longest → (refusal_of s n ≡ 0) ⊎ (refusal_of s n ≡ 17)

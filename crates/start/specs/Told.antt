@@ -18,7 +18,8 @@ pub record Told (own : ℕ) (l : Layout) (img : List ℕ) (s : State) (m : List 
   -- after it there are three refusals, and none names a place
   pub number_is : check_of l (length m) img ≡ accepted → (v.number ≡ 0) ⊎ ((v.number ≡ 17) ⊎ ((v.number ≡ 26) ⊎ (v.number ≡ 27)))
   pub no_word : check_of l (length m) img ≡ accepted → v.place ≡ no_place
-  -- each with all that was tried before it in order
+  -- each tells that all tried before it was in order, so that together they tell when each comes
   pub state : v.number ≡ 17 → (check_of l (length m) img ≡ accepted) × (own ≡ 17)
   pub code : v.number ≡ 26 → (check_of l (length m) img ≡ accepted) × ((own ≡ 0) × Not (code_of l m ≡ img))
   pub bases : v.number ≡ 27 → (check_of l (length m) img ≡ accepted) × ((own ≡ 0) × ((code_of l m ≡ img) × Not (Based l s)))
+  pub done : v.number ≡ 0 → (check_of l (length m) img ≡ accepted) × ((own ≡ 0) × ((code_of l m ≡ img) × Based l s))
