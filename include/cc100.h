@@ -13,7 +13,7 @@
 
    - it hands each call the state and memory that the last one left, the first of them those of the start;
    - it changes in them only registers 1 to 25 and 28 to 31, HI, LO and bytes of the data area, and these only where the step of the state ends in
-     an exit.
+     an exit. What the module is to find there at its first step goes in before the start. Another start begins another list.
 
    Then every fetch is from its code area and every load and store in its data area, and so is every access that an answer carries; no exits
    are met but CC100_EXIT_INTEGER_OVERFLOW, CC100_EXIT_SYSTEM_CALL, CC100_EXIT_BREAKPOINT and CC100_EXIT_TRAP, and all other memory keeps its
@@ -134,7 +134,8 @@ static inline void cc100_set_word(uint8_t *bytes, uint32_t word)
 
 /* What the checker says of a module: `number` is CC100_DONE, which accepts it, or a refusal, 1 to 16, 22 or 25, and of a straight-through module
    also 20 or 21. `place` is the index of the word that 8 to 16 and 20 refuse; of 22 and 25 that of the guard's ANDI, two words before the access;
-   and else CC100_NO_PLACE. A start says the same of its module, and can also refuse by 17, 26 or 27, which have no place. */
+   and else CC100_NO_PLACE. A start says what cc100_check says of the module, never 20 or 21, and can also refuse by 17, 26 or 27, which have no
+   place. */
 typedef struct cc100_verdict {
     uint32_t number, place;
 } cc100_verdict;
@@ -183,8 +184,8 @@ cc100_verdict cc100_check_placed(uint32_t code_base, uint32_t code_size, uint32_
 
 /* Checks a straight-through module before it is placed: as cc100_check, with two rules more. No word is JR or JALR, and every direct target is
    at least two words after its branch and not past the last bundle's start, but for a J to that start in the last word but one; and the last
-   bundle is SYSCALL with code 0, a zero word, J to its own start, a zero word. Started by cc100_start, such a module ends in an exit where a run's
-   budget is more than the number of its words less four. One that is refused by these two rules may still be accepted by cc100_check.
+   bundle is SYSCALL with code 0, a zero word, J to its own start, a zero word. Started by cc100_start for the same layout, memory length and image, such
+   a module ends its first run in an exit where the budget is more than the number of its words less four. One that is refused by these two rules may still be accepted by cc100_check.
    Refuses as cc100_check; also, at each word after 15, by CC100_REFUSED_STRAIGHT, and after 16 by CC100_REFUSED_LAST_BUNDLE, which names no
    word. */
 cc100_verdict cc100_check_straight(uint64_t memory_length, uint32_t code_base, uint32_t code_size, uint32_t data_base, uint32_t data_size,

@@ -1,29 +1,24 @@
 -- What the start call leaves where it answers 0 is demand 3's start, and a start is given back: of states by value, and of states as bytes.
-use Prim.Native.Nat.{ℕ, ◌+◌, ◌%◌, ◌^◌, ◌≤◌, ◌<◌}
+use Prim.Native.Nat.{ℕ, ◌+◌, ◌≤◌}
 use mathlib.Core.Path.{◌≡◌, refl, sym, ap, subst, ◌∙◌}
-use mathlib.Core.Bool.{true}
 use mathlib.Core.List.{List}
 use mathlib.Core.Logic.{◌⊎◌, ⊎_elim}
 use native.Mathlib.Omega.{arith}
-use lib.Dec.{eqb}
 use lib.ListN.{length}
-use borrow.Author.Tests.{eqb-true, ltb-true, lt-ltb}
 use Rattle.word.specs.Bytes.{longest}
-use Rattle.word.proofs.Choice.{both}
 use Rattle.layout.specs.declared.Layout.{Layout}
 use Rattle.machine.specs.declared.state.State.{State}
-use Rattle.machine.specs.State.{register_of, join_of, is_lawful, refusal_of, Typed, Bytes}
+use Rattle.machine.specs.State.{join_of, refusal_of, Typed, Bytes}
 use Rattle.machine.proofs.Steps.{not_refused, refused_alike}
 use Rattle.codec.specs.Bytes.{state_of, bytes_of}
 use Rattle.codec.proofs.RoundTrip.{state_typed}
 use Rattle.cc100.specs.Calls.{call_refusal}
-use Rattle.cc100.proofs.Calls.{call_state}
 use Rattle.rules.specs.Not.{Not}
-use Rattle.checker.specs.declared.verdict.Verdict.{Verdict}
 use Rattle.checker.specs.Check.{accepted, check_of}
 use Rattle.checker.proofs.Whole.{accepted_lawful}
-use Rattle.start.specs.Start.{user_of, started_of, placing_refusal, state_refusal, after_check, answer, start_of, start_call}
-use Rattle.start.proofs.Starts.{user_is, user_below, user_same, state_zero, after_zero, after_accepted, placing_zero, placing_ready}
+use Rattle.start.specs.Start.{user_of, started_of, placing_refusal, later_refusal, after_check, start_of, start_call}
+use Rattle.start.proofs.Kept.{register_0_zero, ready_lawful, ready_typed, handed_back, unrefused}
+use Rattle.start.proofs.Starts.{user_is, user_same, state_zero, after_zero, after_accepted, placing_zero, placing_ready}
 use Rattle.start.proofs.Told.{own_numbers, call_numbers}
 use Rattle.confinement.specs.Calls.{Lent, lent, methods, exported}
 use Rattle.confinement.specs.Demand.{Start}
@@ -32,42 +27,6 @@ use Rattle.confinement.proofs.Exported.{viewed, start_viewed, start_bytes, start
 use Rattle.begun.specs.Begun.{BegunStarts, StartsGivenBack}
 
 -- ---- the state that is made ready
-
--- what 17 asks of it
-ready_lawful : (l : Layout) (s : State) → is_lawful s ≡ true → l.code_base % 4 ≡ 0 → is_lawful (started_of l s) ≡ true
-unfolding is_lawful
-ready_lawful l s e a =
-    let (z, e₁) = both (eqb (register_of s.registers 0) 0) _ e in
-    let (_, e₂) = both (eqb (s.special.pc % 4) 0) _ e₁ in
-    let (_, e₃) = both (eqb (s.special.next_pc % 4) 0) _ e₂ in
-    let next : (l.code_base + 4) % 4 ≡ 0 = omega (arith, a) in
-    rw (z, a, next, lt-ltb (user_of s.special.status) (2 ^ 13) (user_below s.special.status (ltb-true _ _ e₃)))
-
-ready_typed : (l : Layout) (s : State) → Typed s → is_lawful s ≡ true → l.code_base + 4 < 2 ^ 32 → Typed (started_of l s)
-unfolding is_lawful
-ready_typed l s t e h =
-    let (_, e₁) = both (eqb (register_of s.registers 0) 0) _ e in
-    let (_, e₂) = both (eqb (s.special.pc % 4) 0) _ e₁ in
-    let (_, e₃) = both (eqb (s.special.next_pc % 4) 0) _ e₂ in
-    record {
-      count = t.count;
-      registers = t.registers;
-      special =
-          record {
-            hi = t.special.hi;
-            lo = t.special.lo;
-            pc = omega (arith, h);
-            next_pc = h;
-            bad = t.special.bad;
-            status = omega (arith, user_below s.special.status (ltb-true _ _ e₃));
-            cause = t.special.cause;
-            epc = t.special.epc;
-          };
-    }
-
-first : (s : State) → is_lawful s ≡ true → register_of s.registers 0 ≡ 0
-unfolding is_lawful
-first s e = eqb-true _ 0 (both (eqb (register_of s.registers 0) 0) _ e).0
 
 module _ (l : Layout) (img : List ℕ) (s : State) (m : List ℕ) (t : Typed s) (b : Bytes m) where
   -- after the checker, the state and the placing: a start
@@ -84,7 +43,7 @@ module _ (l : Layout) (img : List ℕ) (s : State) (m : List ℕ) (t : Typed s) 
         first_word = refl;
         then_next = refl;
         user_mode = user_is s.special.status;
-        register_0 = first s e;
+        register_0 = register_0_zero s e;
         register_26 = p.based.0;
         register_27 = p.based.1;
         sized = ready_typed l s t e (omega (arith, ok.r1, ok.r4.1, ok.r2.1.0));
@@ -93,35 +52,27 @@ module _ (l : Layout) (img : List ℕ) (s : State) (m : List ℕ) (t : Typed s) 
 
 -- ---- no less
 
--- a number 0 hands the new state back
-given : {S : Type 0} (v : Verdict) (old new : S) → (answer v old new).verdict.number ≡ 0 → (answer v old new).state ≡ new
-given v old new e = rw e refl
-
 pub starts_methods : BegunStarts methods start_of
 unfolding start_of
 starts_methods l img w b =
     let own = refusal_of w.state (length w.memory) in
-    let n = state_refusal own l img w.state w.memory in
+    let n = later_refusal own l img w.state w.memory in
     let (a, z) = after_zero l img w.memory n b.done in
     let (e, placed) = state_zero l img w.state w.memory own z in
     let p = ready l img w.state w.memory b.sized b.bytes a e placed in
-    let t = given (after_check l img w.memory n) w.state (started_of l w.state) b.done in
+    let t = handed_back (after_check l img w.memory n) w.state (started_of l w.state) b.done in
     (a, subst (λ x. Start methods l (length w.memory) img (lent x w.memory)) (sym t) p)
-
-unrefused : (x : List ℕ) (n : ℕ) → call_refusal x n ≡ 0 → refusal_of (state_of x) n ≡ 0
-unfolding call_refusal
-unrefused x n e = let y = rw (call_state x n e) at e in y
 
 pub starts_exported : BegunStarts exported start_call
 unfolding start_call
 starts_exported l img w b =
     let s = state_of w.state in
     let own = call_refusal w.state (length w.memory) in
-    let n = state_refusal own l img s w.memory in
+    let n = later_refusal own l img s w.memory in
     let (a, z) = after_zero l img w.memory n b.done in
     let (e, placed) = state_zero l img s w.memory own z in
     let p = ready l img s w.memory (state_typed w.state b.sized) b.bytes a (unrefused w.state (length w.memory) e) placed in
-    let t = given (after_check l img w.memory n) w.state (bytes_of (started_of l s)) b.done in
+    let t = handed_back (after_check l img w.memory n) w.state (bytes_of (started_of l s)) b.done in
     (a, subst (λ x. Start exported l (length w.memory) img (lent x w.memory)) (sym t) (start_encoded l (length w.memory) img (lent (started_of l s) w.memory) p))
 
 -- ---- no more
@@ -163,8 +114,8 @@ module _ (l : Layout) (len : ℕ) (img : List ℕ) (a : check_of l len img ≡ a
     checked = ap (λ n. check_of l n img) p.length_told ∙ a
 
     -- nothing is refused where the state's own refusal is 0
-    said : (own : ℕ) → own ≡ 0 → after_check l img w.memory (state_refusal own l img w.state w.memory) ≡ accepted
-    unfolding state_refusal
+    said : (own : ℕ) → own ≡ 0 → after_check l img w.memory (later_refusal own l img w.state w.memory) ≡ accepted
+    unfolding later_refusal
     said own e = rw e (ap (λ k. after_check l img w.memory k) placing ∙ after_accepted l img w.memory 0 checked)
 
 pub given_back_methods : StartsGivenBack methods start_of

@@ -6,10 +6,10 @@ use Rattle.confinement.specs.Demand.{Demand3}
 use Rattle.confinement.proofs.Whole.{demand_3_methods, demand_3_exported}
 use Rattle.termination.specs.Ends.{StraightEnds}
 use Rattle.termination.proofs.Whole.{straight_ends_methods, straight_ends_exported}
-use Rattle.begun.specs.Begun.{Starts, left_by, BegunSecured, BegunStarts, BegunEnds}
+use Rattle.begun.specs.Begun.{StartCall, left_by, BegunSecured, BegunStarts, BegunEnds}
 use Rattle.begun.proofs.Ready.{starts_methods, starts_exported}
 
-module _ {S : Type 0} (c : Calls S) (start : Starts S) where
+module _ {S : Type 0} (c : Calls S) (start : StartCall S) where
   -- from demand 3 and what the call promises
   secured_from : Demand3 c → BegunStarts c start → BegunSecured c start
   secured_from d starts l img w b es =

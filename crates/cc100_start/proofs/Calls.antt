@@ -17,13 +17,13 @@ use Rattle.cc100.proofs.Calls.{encode_bytes}
 use Rattle.checker.specs.declared.verdict.Refused.{Refused}
 use Rattle.checker.specs.Check.{verdict, accepted}
 use Rattle.checker.specs.Said.{place_of}
-use Rattle.start.specs.Start.{started_of, state_refusal, after_check, verdict_by, StartedFrom, start_call}
+use Rattle.start.specs.Start.{started_of, later_refusal, after_check, verdict_by, StartedFrom, start_call}
 use Rattle.start.proofs.Order.{own_refused}
 use Rattle.cc100_start.specs.Call.{says}
 
 module _ (l : Layout) (img b m : List ℕ) (given : Result State Refusal) (d : Decodes b (length m) given) where
   -- of a state that bytes stand for, or of their refusal
-  decoded : (r : Result State Refusal) → Decodes b (length m) r → verdict_by l img r m ≡ after_check l img m (state_refusal (call_refusal b (length m)) l img (state_of b) m)
+  decoded : (r : Result State Refusal) → Decodes b (length m) r → verdict_by l img r m ≡ after_check l img m (later_refusal (call_refusal b (length m)) l img (state_of b) m)
   unfolding verdict_by call_refusal
   decoded (Ok s) (h, (e, q)) = rw (e, q) refl
   decoded (Err e) q = ap (after_check l img m) (own_refused l img (state_of b) m e (call_refusal b (length m)) (sym q))

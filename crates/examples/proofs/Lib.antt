@@ -1,3 +1,4 @@
+pub mod Begun
 pub mod Cases
 pub mod Starts
 pub mod Escapes

@@ -1,7 +1,7 @@
 -- The number of each refusal (document 01, Refusal table; document 02, Tickets 2 and 5 to 8), and that of a result, which may be one.
 use Rattle.std.specs.Prelude.{ℕ, ◌≡◌, Bool, true, false, Result, Ok, Err}
 use Rattle.refusal.specs.declared.Refusal.{Refusal}
-use Rattle.refusal.specs.declared.Refusal.TheVariants.{MemoryTooLong, CodeSize, DataSize, CodePlace, DataPlace, Overlap, ImageLength, NoInstruction, Barred, WritesBase, LinkOverBase, DataGuard, CodeGuard, BranchAfterBranch, Target, NoLastJump, State, IllegalField, NotServed, NotForward, LastBundle, DataMask, NoSpace, Record, MaskHole, CodeBytes, BaseRegister}
+use Rattle.refusal.specs.declared.Refusal.TheVariants.{MemoryTooLong, CodeSize, DataSize, CodePlace, DataPlace, Overlap, ImageLength, NoInstruction, Barred, WritesBase, LinkOverBase, DataGuard, CodeGuard, BranchAfterBranch, Target, NoLastJump, State, IllegalField, NotServed, NotForward, LastBundle, DataMask, NoSpace, Record, MaskHole, CodeBytes, Bases}
 
 abbrev pub number_of : Refusal → ℕ
 number_of MemoryTooLong = 1
@@ -30,7 +30,7 @@ number_of NoSpace = 23
 number_of Record = 24
 number_of MaskHole = 25
 number_of CodeBytes = 26
-number_of BaseRegister = 27
+number_of Bases = 27
 
 abbrev pub IsNumberOf : Refusal → ℕ → Type 0
 IsNumberOf r n = n ≡ number_of r

@@ -29,7 +29,7 @@ pub enum Refusal {
     Record = 24,
     MaskHole = 25,
     CodeBytes = 26,
-    BaseRegister = 27,
+    Bases = 27,
 }
 
 // What a rule that is broken, or a test that holds, ends in: a refusal, or an exit of the machine.

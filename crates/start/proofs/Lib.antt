@@ -1,3 +1,4 @@
+pub mod Kept
 pub mod Order
 pub mod Starts
 pub mod Told

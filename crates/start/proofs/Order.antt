@@ -20,7 +20,7 @@ use Rattle.checker.specs.declared.verdict.Refused.{Refused}
 use Rattle.checker.specs.Check.{verdict, no_place, accepted, check_of, code_of}
 use Rattle.checker.specs.Said.{IsPlaceless, place_of, verdict_of}
 use Rattle.checker.proofs.Whole.{accepted_lawful}
-use Rattle.start.specs.Start.{placing_refusal, state_refusal, given_refusal, verdict_by, StartedFrom, says, start_of}
+use Rattle.start.specs.Start.{placing_refusal, later_refusal, given_refusal, verdict_by, StartedFrom, says, start_of}
 
 module _ (l : Layout) (img m : List ℕ) (given : Result State Refusal) where
   -- the checker's refusal is the answer
@@ -56,12 +56,12 @@ code_is l m img =
     ap (λ (k : ℕ). bytes_eq (take k (drop l.code_base m)) img) z
 
 module _ (l : Layout) (img : List ℕ) (s : State) (m : List ℕ) where
-  pub own_refused : (e : Refusal) (own : ℕ) → number_of e ≡ own → number_of e ≡ state_refusal own l img s m
-  unfolding state_refusal
+  pub own_refused : (e : Refusal) (own : ℕ) → number_of e ≡ own → number_of e ≡ later_refusal own l img s m
+  unfolding later_refusal
   own_refused e own q = rw (← q, ne_eqb (number_of e) 0 (number_some e)) refl
 
-  pub placing_next : (own k : ℕ) → 0 ≡ own → k ≡ placing_refusal l img s m → k ≡ state_refusal own l img s m
-  unfolding state_refusal
+  pub placing_next : (own k : ℕ) → 0 ≡ own → k ≡ placing_refusal l img s m → k ≡ later_refusal own l img s m
+  unfolding later_refusal
   placing_next own k q h = rw (← q) h
 
 pub status_fits : (s : State) (n : ℕ) → 0 ≡ refusal_of s n → s.special.status < 2 ^ 13

@@ -18,7 +18,7 @@ use Rattle.rules.specs.Not.{Not}
 use Rattle.checker.specs.Check.{verdict, no_place, accepted, check_of, code_of}
 use Rattle.checker.proofs.Whole.{number_accepted}
 use Rattle.start.specs.Told.{Based}
-use Rattle.start.specs.Start.{is_based, user_of, placing_refusal, state_refusal, after_check}
+use Rattle.start.specs.Start.{is_based, user_of, placing_refusal, later_refusal, after_check}
 
 -- ---- the status
 
@@ -66,8 +66,8 @@ module _ (l : Layout) (s : State) where
 
 module _ (l : Layout) (img : List ℕ) (s : State) (m : List ℕ) where
   -- 0 after the state
-  pub state_zero : (own : ℕ) → state_refusal own l img s m ≡ 0 → (own ≡ 0) × (placing_refusal l img s m ≡ 0)
-  unfolding state_refusal
+  pub state_zero : (own : ℕ) → later_refusal own l img s m ≡ 0 → (own ≡ 0) × (placing_refusal l img s m ≡ 0)
+  unfolding later_refusal
   state_zero own e = go (eqb own 0) refl e
     where
       go : (t : Bool) → eqb own 0 ≡ t → cond t (placing_refusal l img s m) own ≡ 0 → (own ≡ 0) × (placing_refusal l img s m ≡ 0)

@@ -21,7 +21,7 @@ use Rattle.checker.specs.declared.verdict.Verdict.{Verdict}
 use Rattle.checker.specs.Check.{verdict, no_place, accepted, check_of, code_of}
 use Rattle.checker.proofs.Verdicts.{verdict_told}
 use Rattle.checker.proofs.Whole.{accepted_lawful, number_accepted}
-use Rattle.start.specs.Start.{is_based, placing_refusal, state_refusal, after_check, start_of, start_call}
+use Rattle.start.specs.Start.{is_based, placing_refusal, later_refusal, after_check, start_of, start_call}
 use Rattle.start.proofs.Starts.{based_is, is_then_based}
 use Rattle.start.specs.Told.{Based, Told}
 
@@ -49,8 +49,8 @@ module _ (l : Layout) (img : List ℕ) (s : State) (m : List ℕ) where
         → (Not (checked ≡ accepted) → P checked)
         → (checked ≡ accepted → Not (own ≡ 0) → P (verdict own no_place))
         → (checked ≡ accepted → own ≡ 0 → P (verdict (placing_refusal l img s m) no_place))
-        → P (after_check l img m (state_refusal own l img s m))
-    unfolding state_refusal
+        → P (after_check l img m (later_refusal own l img s m))
+    unfolding later_refusal
     by_answer P f g h =
         by_zero P checked.number
         (λ e. let a = number_accepted l (length m) img e in by_zero (λ k. P (verdict k no_place)) own (h a) (g a))
@@ -63,13 +63,13 @@ module _ (l : Layout) (img : List ℕ) (s : State) (m : List ℕ) where
     refused n =
         let t = verdict_told l (length m) img in
         record {
-          checker = λ _. refl;
+          on_refusal = λ _. refl;
           number_is = λ a. absurd (n a);
           no_word = λ a. absurd (n a);
-          state = λ e. absurd (omega (arith, e, t.number_is));
-          code = λ e. absurd (omega (arith, e, t.number_is));
-          bases = λ e. absurd (omega (arith, e, t.number_is));
-          done = λ e. absurd (n (number_accepted l (length m) img e));
+          on_17 = λ e. absurd (omega (arith, e, t.number_is));
+          on_26 = λ e. absurd (omega (arith, e, t.number_is));
+          on_27 = λ e. absurd (omega (arith, e, t.number_is));
+          on_0 = λ e. absurd (n (number_accepted l (length m) img e));
         }
 
     module _ (a : checked ≡ accepted) where
@@ -82,13 +82,13 @@ module _ (l : Layout) (img : List ℕ) (s : State) (m : List ℕ) where
           → Tells (verdict k no_place)
       after k n f g h d =
           record {
-            checker = λ c. absurd (c a);
+            on_refusal = λ c. absurd (c a);
             number_is = λ _. n;
             no_word = λ _. refl;
-            state = λ e. (a, f e);
-            code = λ e. (a, g e);
-            bases = λ e. (a, h e);
-            done = λ e. (a, d e);
+            on_17 = λ e. (a, f e);
+            on_26 = λ e. (a, g e);
+            on_27 = λ e. (a, h e);
+            on_0 = λ e. (a, d e);
           }
 
       by_state : Not (own ≡ 0) → own ≡ 17 → Tells (verdict own no_place)
@@ -102,7 +102,7 @@ module _ (l : Layout) (img : List ℕ) (s : State) (m : List ℕ) where
           (λ p n. after 27 (inr (inr (inr refl))) (λ e. absurd (omega (arith, e))) (λ e. absurd (omega (arith, e))) (λ _. (z, (p, n))) (λ e. absurd (omega (arith, e))))
           (λ p b. after 0 (inl refl) (λ e. absurd (omega (arith, e))) (λ e. absurd (omega (arith, e))) (λ e. absurd (omega (arith, e))) (λ _. (z, (p, b))))
 
-    told : (checked ≡ accepted → (own ≡ 0) ⊎ (own ≡ 17)) → Tells (after_check l img m (state_refusal own l img s m))
+    told : (checked ≡ accepted → (own ≡ 0) ⊎ (own ≡ 17)) → Tells (after_check l img m (later_refusal own l img s m))
     told o =
         by_answer Tells refused (λ a n. by_state a n (⊎_elim (λ z. absurd (n z)) (λ e. e) (o a))) (λ a z. placed a z)
 

@@ -38,27 +38,27 @@ started_of l s =
 
 -- ---- what is refused after the checker
 
--- registers 26 and 27 hold their areas' bases
+-- register 26 holds the data base and 27 the code base
 unfoldable pub is_based : Layout → State → Bool
 is_based l s =
     eqb (register_of s.registers 26) l.data_base && eqb (register_of s.registers 27) l.code_base
 
--- 26 where a code byte differs from the image, then 27 where register 26 or 27 holds another value than its area's base, else 0
+-- 26 where a code byte differs from the image, then 27 where register 26 or 27 holds another value, else 0
 unfoldable pub placing_refusal : Layout → List ℕ → State → List ℕ → ℕ
 placing_refusal l img s m = cond (not (bytes_eq (code_of l m) img)) 26 (cond (not (is_based l s)) 27 0)
 
--- the state's own refusal, 17, comes before these; 1 was the checker's
-unfoldable pub state_refusal : ℕ → Layout → List ℕ → State → List ℕ → ℕ
-state_refusal own l img s m = cond (eqb own 0) (placing_refusal l img s m) own
+-- what is tried after the checker: `own`, the state's own refusal, which is 17 then, since 1 was the checker's; and then these
+unfoldable pub later_refusal : ℕ → Layout → List ℕ → State → List ℕ → ℕ
+later_refusal own l img s m = cond (eqb own 0) (placing_refusal l img s m) own
 
 -- of what is given: a state, or a refusal in its place
 abbrev pub given_refusal : Layout → List ℕ → Result State Refusal → List ℕ → ℕ
-given_refusal l img (Ok s) m = state_refusal (refusal_of s (length m)) l img s m
+given_refusal l img (Ok s) m = later_refusal (refusal_of s (length m)) l img s m
 given_refusal l img (Err e) m = number_of e
 
 -- ---- the answers
 
--- the checker's verdict, with the length of the memory that is lent; after it number k, which has no place
+-- the checker's verdict where it refuses, with the length of the memory that is lent; else number k, without a place
 abbrev pub after_check : Layout → List ℕ → List ℕ → ℕ → Verdict
 after_check l img m k = cond (eqb (check_of l (length m) img).number 0) (verdict k no_place) (check_of l (length m) img)
 
@@ -70,27 +70,27 @@ abbrev pub StartedFrom : Layout → Result State Refusal → State → Type 0
 StartedFrom l (Ok s) t = t ≡ started_of l s
 StartedFrom l (Err e) t = ⊥
 
--- what a start answers and leaves, of a state of type S
-pub record Answer (S : Type 0) : Type 0 where
+-- what a start answers, and the state that it hands back
+pub record StartAnswer (S : Type 0) : Type 0 where
   pub verdict : Verdict
   pub state : S
 
--- refused, with the state as it was
-abbrev pub answer : {S : Type 0} → Verdict → S → S → Answer S
-answer v old new = record { verdict = v; state = cond (eqb v.number 0) new old }
+-- the new state at number 0, and else the old one
+abbrev pub start_answer : {S : Type 0} → Verdict → S → S → StartAnswer S
+start_answer v old new = record { verdict = v; state = cond (eqb v.number 0) new old }
 
 -- of a state by value
-unfoldable pub start_of : Layout → List ℕ → State → List ℕ → Answer State
-start_of l img s m = answer (after_check l img m (state_refusal (refusal_of s (length m)) l img s m)) s (started_of l s)
+unfoldable pub start_of : Layout → List ℕ → State → List ℕ → StartAnswer State
+start_of l img s m = start_answer (after_check l img m (later_refusal (refusal_of s (length m)) l img s m)) s (started_of l s)
 
-abbrev pub says : State → Result State Refused → Answer State
+abbrev pub says : State → Result State Refused → StartAnswer State
 says s (Ok t) = record { verdict = verdict_of {A = State} (Ok t); state = t }
 says s (Err r) = record { verdict = verdict_of {A = State} (Err r); state = s }
 
--- of a state as bytes: 17 is of these too, and all else of the state that they stand for
-unfoldable pub start_call : Layout → List ℕ → List ℕ → List ℕ → Answer (List ℕ)
+-- of a state as bytes: 17 is tried of these and then of the state that they stand for, and 26 and 27 of that state
+unfoldable pub start_call : Layout → List ℕ → List ℕ → List ℕ → StartAnswer (List ℕ)
 start_call l img b m =
-    answer
-    (after_check l img m (state_refusal (call_refusal b (length m)) l img (state_of b) m))
+    start_answer
+    (after_check l img m (later_refusal (call_refusal b (length m)) l img (state_of b) m))
     b
     (bytes_of (started_of l (state_of b)))

@@ -61,14 +61,14 @@ fn placing(layout: Layout, image: &[u8], s: State, memory: &[u8]) -> Result<(), 
     let from = layout.code_base as usize;
     let to = from + layout.code_size as usize;
     Refusal::CodeBytes.when(&memory[from..to] != image)?;
-    Refusal::BaseRegister.when(!is_based(layout, s))
+    Refusal::Bases.when(!is_based(layout, s))
 }
 
 // What is asked of a state and memory after the checker, and the state that is made ready.
 #[tactic(auto, using(crate::proofs::Order::own_refused, crate::proofs::Order::placing_next, crate::proofs::Order::status_fits))]
 fn begun(layout: Layout, image: &[u8], s: State, memory: &[u8]) -> Result<State, Refusal>
     requires { (layout.code_base + layout.code_size ≤ length memory.now) × (layout.code_base + 4 < 2 ^ 32) }
-    ensures number { refused_number result ≡ Spec.state_refusal (refusal_of s (length memory.now)) layout image.now s memory.now }
+    ensures number { refused_number result ≡ Spec.later_refusal (refusal_of s (length memory.now)) layout image.now s memory.now }
     ensures state { IfOk result (λ t. t ≡ Spec.started_of layout s) }
 {
     s.refusal(memory.len())?;
