@@ -176,4 +176,3 @@ module _ (l : Layout) (img m n : List ℕ) (e : length m ≡ length n) (c : code
   pub call_looks : (b : List ℕ) → start_call l img b m ≡ start_call l img b n
   unfolding start_call later_refusal placing_refusal
   call_looks b = rw (e, c) refl
-
