@@ -50,7 +50,7 @@ module _ (l : Layout) (img : List ℕ) (s : State) (m : List ℕ) (t : Typed s) 
         bytes = b;
       }
 
--- ---- no less
+-- ---- what is left is a start
 
 pub starts_methods : BegunStarts methods start_of
 unfolding start_of
@@ -75,7 +75,7 @@ starts_exported l img w b =
     let t = handed_back (after_check l img w.memory n) w.state (bytes_of (started_of l s)) b.done in
     (a, subst (λ x. Start exported l (length w.memory) img (lent x w.memory)) (sym t) (start_encoded l (length w.memory) img (lent (started_of l s) w.memory) p))
 
--- ---- no more
+-- ---- a start is given back
 
 unchanged : (s : State) (p q u : ℕ) → p ≡ s.special.pc → q ≡ s.special.next_pc → u ≡ s.special.status
     → join_of s.registers

@@ -1,4 +1,4 @@
--- Every list that the start call begins has demand 3, with no promise of the operator's: for the methods of State, and for the calls exported to C.
+-- Every list that the start call begins has demand 3, whoever placed the module and set the registers: for the methods of State, and for the calls exported to C.
 use lib.ListN.{length}
 use Rattle.start.specs.Start.{start_of, start_call}
 use Rattle.confinement.specs.Calls.{Calls, methods, exported}
