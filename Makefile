@@ -14,7 +14,7 @@
 # make bench: speed beside plain C and, where it is installed, Unicorn. make bench BEFORE=FILE: beside another archive too, whose calls have the
 # same arguments and answers.
 SHELL = /bin/bash
-VERSION = 1.9
+VERSION = 1.9.1
 PREFIX = /usr/local
 CC = cc
 CFLAGS = -O2 -Wall -Wextra -Werror -Iinclude -Ibench
@@ -105,7 +105,9 @@ install: command $(VERDICT)
 uninstall:
 	@rm -f $(addprefix $(INTO)/,$(INSTALLED))
 
+# The archive needs no name from outside: not even the C library.
 host-test: $(ARCHIVE) $(VERDICT)
+	@if nm -u $(ARCHIVE) | grep -w U; then echo "host tests: the archive needs these names from outside"; exit 1; fi
 	@mkdir -p target/host
 	@$(CC) $(CFLAGS) -o target/host/test host/test_*.c $(PLAIN) $(ARCHIVE)
 	@target/host/test $(VERDICT)

@@ -10,13 +10,14 @@ use effect::effect::Touched;
 use effect::exit::Exit;
 use refusal::Refusal;
 
-// The exit that the run ends in (none: still running), the steps completed, the last access among them, and the state reached.
+// The state reached, the exit that the run ends in (none: still running), the steps completed, and the last access among them. The state first: with the
+// access before it, both are copied as one, by memcpy, which the archive for C has to do without.
 #[derive(Clone, Copy)]
 pub struct Ran {
+    pub state: State,
     pub exit: Option<Exit>,
     pub steps: u32,
     pub touched: Option<Touched>,
-    pub state: State,
 }
 
 impl State {
