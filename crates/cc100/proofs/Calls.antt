@@ -37,16 +37,17 @@ module _ (b : List ℕ) (n : ℕ) where
   too_long_by true h = sym (too_long (state_of b) n h)
   too_long_by false h = rw (lt-ltb longest n h)
 
-  pub decodes_too_long : (e : Refusal) → Err e ≡ refused_when R.MemoryTooLong (ltb longest n) → call_refusal b n ≡ number_of e
+  pub decodes_too_long : (e : Refusal) → Err e ≡ refused_when R.MemoryTooLong (ltb longest n) → Decodes b n (Err e)
   unfolding call_refusal
   decodes_too_long e h =
       let w = when_broken R.MemoryTooLong e (ltb longest n) h in
-      too_long_by (is_state b) (ltb-true _ _ w.1) ∙ sym w.0
+      let g : longest < n = ltb-true _ _ w.1 in
+      (too_long_by (is_state b) g ∙ sym w.0, λ (h : n ≤ longest). let x : ⊥ = omega (arith, g, h) in absurd x)
 
   decodes_by : (t : Bool) → is_state b ≡ t → n ≤ longest → Decodes b n (cond t (Ok (state_of b)) (Err R.State))
   unfolding call_refusal
   decodes_by true q h = (h, (q, refl))
-  decodes_by false q h = rw (q, le-ltb longest n h)
+  decodes_by false q h = (rw (q, le-ltb longest n h), λ _. q)
 
   pub decodes : n ≤ longest → (r : Result State Refusal) → r ≡ decoded_of b → Decodes b n r
   unfolding decoded_of

@@ -1,5 +1,5 @@
 -- What cc100_step, cc100_run and cc100_resume answer and leave: what the machine does, on a state as bytes (document 01).
-use Rattle.std.specs.Prelude.{ℕ, ◌≡◌, ◌≤◌, true, cond, List, eqb, ltb, length, None, Result, Ok, Err}
+use Rattle.std.specs.Prelude.{ℕ, ◌≡◌, ◌≤◌, true, false, cond, List, eqb, ltb, length, None, Result, Ok, Err}
 use Rattle.word.specs.Bytes.{longest}
 use Rattle.effect.specs.declared.effect.Cell.{Cell}
 use Rattle.effect.specs.Exit.{exit_number}
@@ -19,10 +19,11 @@ use Rattle.codec.specs.Bytes.{is_state, state_of, bytes_of}
 unfoldable pub call_refusal : List ℕ → ℕ → ℕ
 call_refusal b n = cond (is_state b) (refusal_of (state_of b) n) (cond (ltb longest n) 1 17)
 
--- r is the refusal that is due, or the state that the bytes stand for, whose own refusals the machine tries
+-- r is the refusal that is due, or the state that the bytes stand for, whose own refusals the machine tries: a state is refused here for memory's length
+-- alone
 abbrev pub Decodes : List ℕ → ℕ → Result State Refusal → Type 0
 Decodes b n (Ok s) = (n ≤ longest) × ((is_state b ≡ true) × (s ≡ state_of b))
-Decodes b n (Err e) = call_refusal b n ≡ number_of e
+Decodes b n (Err e) = (call_refusal b n ≡ number_of e) × (n ≤ longest → is_state b ≡ false)
 
 -- ---- step and resume
 

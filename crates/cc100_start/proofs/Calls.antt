@@ -26,7 +26,7 @@ module _ (l : Layout) (img b m : List ℕ) (given : Result State Refusal) (d : D
   decoded : (r : Result State Refusal) → Decodes b (length m) r → verdict_by l img r m ≡ after_check l img m (later_refusal (call_refusal b (length m)) l img (state_of b) m)
   unfolding verdict_by call_refusal
   decoded (Ok s) (h, (e, q)) = rw (e, q) refl
-  decoded (Err e) q = ap (after_check l img m) (own_refused l img (state_of b) m e (call_refusal b (length m)) (sym q))
+  decoded (Err e) q = ap (after_check l img m) (own_refused l img (state_of b) m e (call_refusal b (length m)) (sym q.0))
 
   pub refused : (r : Refused) → verdict (number_of r.rule) (place_of r.place) ≡ verdict_by l img given m → says (Err r) b ≡ start_call l img b m
   unfolding start_call

@@ -136,13 +136,23 @@ module _ (word : ℕ → ℕ → Bool) (at after : ℕ → List Trial) where
       let d : i ≡ n = omega arith in
       rw (z, d)
 
+  -- so what the code's loop says of the k words that are left of n is what their trials say
+  module _ (number : ℕ → ℕ) (end : Verdict) (g : (i : ℕ) → Gives i (number i)) (n : ℕ) (e : first (after n) ≡ end) where
+    left_of : (k i : ℕ) → i + k ≡ n → first_word number end k i ≡ words_by word at after k i
+    left_of zero i p =
+        let z : n - i ≡ 0 = omega (arith, p) in
+        sym e ∙ (rw z at (scan_end i n (omega (arith, p)) (omega (arith, p))))
+    left_of (suc k) i p =
+        let z : n - i ≡ suc k = omega (arith, p) in
+        let y : n - (i + 1) ≡ k = omega (arith, p) in
+        let h : i < n = omega (arith, p) in
+        by_zero (λ (x : Verdict). x ≡ words_by word at after (suc k) i) (number i)
+        (λ b. left_of k (suc i) (omega (arith, p)) ∙ (rw (z, y, add-one i) at (scan_go i n (number i) (g i) h b)))
+        (λ b. rw z at (scan_stop i n (number i) (g i) h b))
+
   pub turned : (number : ℕ → ℕ) (end : Verdict) → ((i : ℕ) → Gives i (number i)) → (n i : ℕ) → first (after (i + n)) ≡ end
       → first_word number end n i ≡ words_by word at after n i
-  turned number end g zero i e = let z : i + 0 ≡ i = omega arith in sym (rw z at e)
-  turned number end g (suc n) i e =
-      let z : i + suc n ≡ suc i + n = omega arith in
-      ap (λ (x : Verdict). cond (eqb (number i) 0) x (said (trial (number i) i))) (turned number end g n (suc i) (rw z at e))
-      ∙ sym (g i (in_turn at after n (suc i)))
+  turned number end g n i e = left_of number end g (i + n) e n i refl
 
 -- ---- the words of the checker
 

@@ -33,7 +33,7 @@ pub struct Verdict {
 }
 
 // The place of what is no word's.
-const NO_PLACE: u32 = 0xFFFFFFFF;
+pub const NO_PLACE: u32 = 0xFFFFFFFF;
 
 impl From<Result<(), Refused>> for Verdict {
     ghost use Rattle.checker.specs.Said.{IsVerdictOf};

@@ -71,6 +71,10 @@ none_of : (n : ℕ) → ((k : Kind) → number_of k ≡ n → ⊥) → (ks : Lis
 none_of n away [] = refl
 none_of n away (k ∷ ks) = rw (ne_eqb (number_of k) n (away k)) (none_of n away ks)
 
+pub no_kind : (n : ℕ) → ((k : Kind) → number_of k ≡ n → ⊥) → None ≡ kind_of n
+unfolding kind_of
+no_kind n away = sym (none_of n away instructions)
+
 pub unknown : (n : ℕ) → ((0 < n) × (n < 73) → ⊥) → IsKindOf n (Err IllegalField)
 unfolding kind_of
 unknown n away = rw (none_of n (λ k e. away (let b = numbers k in (omega arith, omega arith))) instructions)

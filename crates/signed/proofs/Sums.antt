@@ -6,7 +6,7 @@ use Rattle.word.specs.Number.{signed_of, wrap_of, sum_of, difference_of}
 use Rattle.word.proofs.Numbers.{signed_low, signed_high}
 
 -- z is x - y
-abbrev Diff : ℤ → ℕ → ℕ → Type 0
+abbrev pub Diff : ℤ → ℕ → ℕ → Type 0
 Diff (pos n) x y = x ≡ y + n
 Diff (negsuc n) x y = y ≡ x + suc n
 
@@ -23,17 +23,17 @@ diff_neg (pos (suc n)) x y h = h
 diff_neg (negsuc n) x y h = h
 
 module _ (x y u v : ℕ) where
-  diff_sum : (z w : ℤ) → Diff z x y → Diff w u v → Diff (z +ℤ w) (x + u) (y + v)
+  pub diff_sum : (z w : ℤ) → Diff z x y → Diff w u v → Diff (z +ℤ w) (x + u) (y + v)
   diff_sum (pos m) (pos n) h k = omega arith
   diff_sum (pos m) (negsuc n) h k = diff_sub m (suc n) (x + u) (y + v) (omega arith)
   diff_sum (negsuc m) (pos n) h k = diff_sub n (suc m) (x + u) (y + v) (omega arith)
   diff_sum (negsuc m) (negsuc n) h k = omega arith
 
-diff_difference : (x y u v : ℕ) (z w : ℤ) → Diff z x y → Diff w u v → Diff (z -ℤ w) (x + v) (y + u)
+pub diff_difference : (x y u v : ℕ) (z w : ℤ) → Diff z x y → Diff w u v → Diff (z -ℤ w) (x + v) (y + u)
 diff_difference x y u v z w h k = diff_sum x y v u z (neg_ℤ w) h (diff_neg w u v k)
 
 -- multiples of 2^32 are lost where z wraps
-diff_wrap : (x y p q : ℕ) (z : ℤ) → y ≤ 2 ^ 32 → Diff z (x + p * 2 ^ 32) (q * 2 ^ 32 + y) → wrap_of 32 z ≡ (x + 2 ^ 32 - y) % 2 ^ 32
+pub diff_wrap : (x y p q : ℕ) (z : ℤ) → y ≤ 2 ^ 32 → Diff z (x + p * 2 ^ 32) (q * 2 ^ 32 + y) → wrap_of 32 z ≡ (x + 2 ^ 32 - y) % 2 ^ 32
 diff_wrap x y p q (pos n) k h = omega arith
 diff_wrap x y p q (negsuc n) k h = omega arith
 

@@ -7,7 +7,7 @@ use native.Mathlib.Omega.{arith}
 use lib.Dec.{T, eqb, ltb, eqb→eq, ltb→lt}
 use borrow.Author.Tests.{eqb-true, eqb-false}
 use lib.ListN.{get_or}
-use Rattle.std.specs.Prelude.{Option, Some, None}
+use Rattle.std.specs.Prelude.{Option, Some, None, is_some}
 use Rattle.word.specs.declared.field.Fields.{Fields}
 use Rattle.word.specs.Field.{cut_of, Fit}
 use Rattle.word.proofs.Fields.{cut_fit}
@@ -31,6 +31,14 @@ entry_kind Special k q = cc
 entry_kind Regimm k q = cc
 entry_kind Cop0 k q = cc
 entry_kind (Holds j) k q = cc
+
+-- an entry that is not empty and no marker holds a kind
+pub entry_holds : (e : Entry) → is_some (kind_in e) ≡ true → (k : Kind) × (e ≡ Holds k)
+entry_holds Empty q = cc
+entry_holds Special q = cc
+entry_holds Regimm q = cc
+entry_holds Cop0 q = cc
+entry_holds (Holds k) q = (k, refl)
 
 -- ---- the place that fields lead to has their key
 

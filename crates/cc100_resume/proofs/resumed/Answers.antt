@@ -6,7 +6,7 @@ use Rattle.cc100_resume.proofs.resumed.Goals as goal
 pub returns-in_err-s : goal.returns-in_err-s
 returns-in_err-s c =
     let p = err_from_is_err_and c.from_residual.result c.from_residual.ensures.1 in
-    rw (p.1, p.2) (resume_refused_call c.args.state.now c.args.memory.now _ c.in_err-s.ensures)
+    rw (p.1, p.2) (resume_refused_call c.args.state.now c.args.memory.now _ c.in_err-s.ensures.0)
 
 pub returns-in_err-after : goal.returns-in_err-after
 returns-in_err-after c =

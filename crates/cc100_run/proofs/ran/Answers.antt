@@ -6,7 +6,7 @@ use Rattle.cc100_run.proofs.ran.Goals as goal
 pub returns-in_err-s : goal.returns-in_err-s
 returns-in_err-s c =
     let p = err_from_is_err_and c.from_residual.result c.from_residual.ensures.1 in
-    rw (p.1, p.2) (run_refused_call c.args.state.now c.args.memory.now c.args.budget _ c.in_err-s.ensures)
+    rw (p.1, p.2) (run_refused_call c.args.state.now c.args.memory.now c.args.budget _ c.in_err-s.ensures.0)
 
 pub returns-in_err-r : goal.returns-in_err-r
 returns-in_err-r c =
