@@ -107,7 +107,7 @@ uninstall:
 
 # The archive needs no name from outside: not even the C library.
 host-test: $(ARCHIVE) $(VERDICT)
-	@if nm -u $(ARCHIVE) | grep -w U; then echo "host tests: the archive needs these names from outside"; exit 1; fi
+	@needs=$$(nm -u $(ARCHIVE)) || exit 1; if grep -w '[Uw]' <<< "$$needs"; then echo "host tests: the archive needs these names from outside"; exit 1; fi
 	@mkdir -p target/host
 	@$(CC) $(CFLAGS) -o target/host/test host/test_*.c $(PLAIN) $(ARCHIVE)
 	@target/host/test $(VERDICT)
